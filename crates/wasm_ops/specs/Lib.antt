@@ -1,0 +1,3 @@
+pub mod IntOps
+pub mod Sequence
+pub mod Traps

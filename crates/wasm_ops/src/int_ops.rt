@@ -1,0 +1,45 @@
+//! The integer operators (WebAssembly Core 1.0, section 2.4.1).
+ghost use Rattle.std.specs.Prelude.{◌≡◌, Some, None, if◌then◌else◌};
+ghost use Rattle.wasm_ops.specs.IntOps.{is_int_op};
+
+use std::marker::Model;
+
+/// An integer operator. Contracts see it as its byte in the binary format (section 5.4.5).
+///
+/// Those of one operand are `eqz`, `clz`, `ctz`, `popcnt`, `i32.wrap_i64`, `i64.extend_i32_s` and `i64.extend_i32_u`; all others take two.
+#[derive(Clone, Copy, Debug, PartialEq, Eq)]
+pub struct IntOp {
+    byte: u8,
+}
+
+impl Model for IntOp {
+    ghost use Rattle.std.specs.Prelude.{ℕ, IsTrue};
+    ghost use Rattle.wasm_ops.specs.IntOps.{is_int_op};
+
+    ghost Value = { ℕ };
+
+    ghost view = { λ op. op.byte };
+
+    ghost invariant = { λ op. IsTrue (is_int_op op.byte) };
+
+    ghost inverse = { λ n. record { byte = n } };
+}
+
+impl IntOp {
+    /// The operator with this byte, unless it is the byte of no integer operator.
+    pub fn from_byte(byte: u8) -> Option<IntOp>
+        ensures { result ≡ (if is_int_op byte then Some byte else None) }
+    {
+        match byte {
+            0x45..=0x5A | 0x67..=0x8A | 0xA7 | 0xAC | 0xAD => Some(IntOp { byte }),
+            _ => None,
+        }
+    }
+
+    /// The byte.
+    pub fn byte(&self) -> u8
+        ensures { result ≡ self.now }
+    {
+        self.byte
+    }
+}

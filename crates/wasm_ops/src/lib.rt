@@ -1,0 +1,29 @@
+//! WebAssembly's types, operators, modules and numbers, as every layer above speaks of them.
+//!
+//! The types are those of WebAssembly Core 1.0, chapter 2, without floating point; `specs/Sequence.antt` has the nested body whose flat form a `Body` holds.
+//! Numbers are read from bytes by a `Cursor`, exactly where the bytes spell one (section 5.2).
+//! It stands on nothing but std.
+#![tactic(auto)]
+
+mod faults;
+mod int_ops;
+mod lists;
+mod modules;
+mod names;
+mod operators;
+mod traps;
+mod types;
+
+pub use faults::Fault;
+pub use int_ops::IntOp;
+pub use lists::Items;
+pub use modules::{
+    Body, ByteSegment, Constant, ElementSegment, Export, GlobalDef, Import, ImportItem, Module,
+};
+pub use names::Name;
+pub use operators::Op;
+pub use traps::Trap;
+pub use types::{Access, FuncType, Limits, ValType};
+
+#[cfg(test)]
+mod tests;

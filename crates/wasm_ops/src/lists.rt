@@ -1,0 +1,34 @@
+//! The list that the parts of a module are kept in.
+ghost use Rattle.std.specs.Prelude.{◌≡◌};
+
+use std::marker::Model;
+
+/// A list that no longer changes. Contracts see it as the list of its items.
+#[derive(Debug, Drop)]
+pub struct Items<T> {
+    items: Vec<T>,
+}
+
+impl<T> Model for Items<T> {
+    ghost use Rattle.std.specs.Prelude.{List};
+
+    ghost Value = { List T };
+
+    ghost view = { λ list. list.items.items };
+}
+
+impl<T> Items<T> {
+    /// The items of a vector.
+    pub fn new(items: Vec<T>) -> Self
+        ensures { result ≡ items.items }
+    {
+        Items { items }
+    }
+
+    /// The items, in order.
+    pub fn as_slice(&self) -> &[T]
+        ensures { result.now ≡ self.now }
+    {
+        self.items.as_slice()
+    }
+}

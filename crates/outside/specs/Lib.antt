@@ -1,3 +1,5 @@
 pub mod Faults
 pub mod Library
+pub mod Page
+pub mod Shelf
 pub mod Sink

@@ -13,9 +13,15 @@
 mod faults;
 mod gates;
 mod libraries;
+mod pages;
+mod shelves;
 mod sinks;
+mod texts;
 
 pub use crate::faults::Failed;
 pub use crate::gates::{Gate, OpenGate};
 pub use crate::libraries::{Fetch, Library};
+pub use crate::pages::{Cut, Page};
+pub use crate::shelves::Shelf;
 pub use crate::sinks::Sink;
+pub use crate::texts::Text;

@@ -10,6 +10,7 @@
 //! The crate stands on the standard library alone.
 #![tactic(auto)]
 
+mod adapters;
 mod faults;
 mod gates;
 mod libraries;
@@ -18,6 +19,7 @@ mod shelves;
 mod sinks;
 mod texts;
 
+pub use crate::adapters::{FileLibrary, StdNotes, StdSink};
 pub use crate::faults::Failed;
 pub use crate::gates::{Gate, OpenGate};
 pub use crate::libraries::{Fetch, Library};

@@ -1,1 +1,6 @@
 mod SequenceExamples
+pub mod InputLaws
+pub mod NameLaws
+pub mod NumberLaws
+pub mod NumberSteps
+pub mod Powers

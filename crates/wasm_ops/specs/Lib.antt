@@ -1,3 +1,7 @@
+pub mod Input
 pub mod IntOps
+pub mod NameInput
+pub mod NumberInput
+pub mod Numbers
 pub mod Sequence
 pub mod Traps

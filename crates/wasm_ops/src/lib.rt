@@ -5,15 +5,18 @@
 //! It stands on nothing but std.
 #![tactic(auto)]
 
+mod cursors;
 mod faults;
 mod int_ops;
 mod lists;
 mod modules;
 mod names;
+mod numbers;
 mod operators;
 mod traps;
 mod types;
 
+pub use cursors::Cursor;
 pub use faults::Fault;
 pub use int_ops::IntOp;
 pub use lists::Items;

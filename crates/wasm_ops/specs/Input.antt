@@ -1,0 +1,35 @@
+-- What a cursor has before it, and how a call takes from it (WebAssembly Core 1.0, section 5.2).
+use Rattle.std.specs.Prelude.{◌≡◌, ℕ, ◌+◌, nat_le, if◌then◌else◌, List, [], ◌∷◌, length, take, drop, Result, Ok, Err, MatchResult}
+use Rattle.wasm_ops.specs.declared.faults.Fault.{Fault}
+
+-- the place of the next byte, and the bytes from there to the end of the window
+pub record Input : Type 0 where
+  pub at : ℕ
+  pub left : List ℕ
+
+-- the place behind the window
+abbrev pub end_of : Input → ℕ
+end_of input = input.at + length input.left
+
+-- what a call answers, where the definition says what is read and what is left behind it: a refusal leaves all as it was
+abbrev pub Takes : {A : Type 0} → Result (A × Input) Fault → Result A Fault → (before after : Input) → Type 0
+Takes taken result before after = MatchResult result (λ x. taken ≡ Ok (x, after)) (λ fault. (taken ≡ Err fault) × (after ≡ before))
+
+-- the window ends within an item
+abbrev pub cut_short : Input → Fault
+cut_short input = record { number = 1; place = end_of input }
+
+-- the next byte
+abbrev pub byte_of : (at : ℕ) → List ℕ → Result (ℕ × Input) Fault
+byte_of at [] = Err (cut_short (record { at = at; left = [] }))
+byte_of at (byte ∷ left) = Ok (byte, record { at = at + 1; left = left })
+
+abbrev pub byte_from : Input → Result (ℕ × Input) Fault
+byte_from input = byte_of input.at input.left
+
+-- the next bytes, so many of them
+abbrev pub bytes_from : (count : ℕ) → Input → Result (List ℕ × Input) Fault
+bytes_from count input =
+    if nat_le count (length input.left)
+    then Ok (take count input.left, record { at = input.at + count; left = drop count input.left })
+    else Err (cut_short input)

@@ -24,6 +24,7 @@ pub use modules::{
     Body, ByteSegment, Constant, ElementSegment, Export, GlobalDef, Import, ImportItem, Module,
 };
 pub use names::Name;
+pub use numbers::{LebFault, Sign};
 pub use operators::Op;
 pub use traps::Trap;
 pub use types::{Access, FuncType, Limits, ValType};

@@ -6,7 +6,7 @@ ghost use Rattle.wasm_ops.specs.declared.numbers.Sign.TheVariants.{Unsigned, Sig
 
 /// Whether the spelt numbers have a sign. A negative one is answered as its two's complement.
 #[derive(Clone, Copy)]
-pub(crate) enum Sign {
+pub enum Sign {
     /// From 0 on.
     Unsigned,
 
@@ -16,7 +16,7 @@ pub(crate) enum Sign {
 
 /// Why bytes spell no number.
 #[derive(Clone, Copy)]
-pub(crate) enum LebFault {
+pub enum LebFault {
     /// The bytes end before the number does.
     CutShort,
 

@@ -2,8 +2,8 @@
 //
 // These few lines are trusted: that they hand the bytes on is shown by tests, and no clause tells
 // what a file holds or what a stream has taken.
-ghost use Rattle.std.specs.Prelude.{◌≡◌, ◌+◌, ◌≤◌, ℕ, List, length, None, IfOk, IfErr, OnErr};
-ghost use Rattle.outside.specs.Faults.{one_more, Rose};
+ghost use Rattle.std.specs.Prelude.{◌≡◌, ◌+◌, ◌≤◌, ℕ, List, length, None, IfOk, IfErr};
+ghost use Rattle.outside.specs.Faults.{one_more, FailsOnlyWhereRose};
 ghost use Rattle.outside.specs.Library.{FetchCause};
 
 use crate::faults::Failed;
@@ -14,6 +14,9 @@ use std::io::{ErrorKind, Read, Write};
 use std::marker::Model;
 use std::rt::Files;
 use std::{fs, io};
+
+#[cfg(test)]
+mod tests;
 
 /// How many bytes one call of `read` asks a file for at most.
 const PIECE: usize = 8192;
@@ -57,7 +60,12 @@ impl<'a, R: Files> FileLibrary<'a, R> {
 
     /// All bytes that the file has left where they are at most `most`, and else the first
     /// `most + 1` of them.
-    fn read_file(&mut self, alloc: Global, file: &mut R::File, most: u64) -> Result<Vec<u8>, Fetch>
+    fn read_file<F: Read>(
+        &mut self,
+        alloc: Global,
+        file: &mut F,
+        most: u64,
+    ) -> Result<Vec<u8>, Fetch>
         ensures at_most { IfOk result (λ bytes. length bytes.items ≤ most + 1) }
         ensures cause { (name : List ℕ) → IfErr result (FetchCause None name self.old self.new) }
         ensures later { self.old ≤ self.new }
@@ -165,7 +173,7 @@ impl<W: Write> StdSink<W> {
 
     /// Hands what the stream has kept back to the system.
     fn flush(&mut self) -> Result<(), Failed>
-        ensures cause { OnErr result (Rose self.old self.new) }
+        ensures cause { FailsOnlyWhereRose result self.old self.new }
         ensures later { self.old ≤ self.new }
     {
         for _ in 0..u64::MAX {

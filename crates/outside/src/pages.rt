@@ -1,6 +1,6 @@
 // A sink in memory.
 ghost use Rattle.std.specs.Prelude.{◌≡◌, ◌≤◌, ◌↔◌, [], length, is_ok, IfOk, OnOk, OnErr, IsOk, IsTrue, Some};
-ghost use Rattle.outside.specs.Faults.{Rose};
+ghost use Rattle.outside.specs.Faults.{FailsOnlyWhereRose};
 ghost use Rattle.outside.specs.Sink.{Appends, TakesPrefix};
 ghost use Rattle.outside.specs.Page.{Passes, next_cut, taken_of, after_write};
 
@@ -8,6 +8,9 @@ use crate::faults::Failed;
 use crate::sinks::Sink;
 use std::alloc::{AllocError, Global};
 use std::marker::Model;
+
+#[cfg(test)]
+mod tests;
 
 /// A call of `write` that fails, by its number counted from 0, and how many bytes it lets pass
 /// before it fails.
@@ -100,7 +103,7 @@ impl Sink for Page {
     fn write(&mut self, bytes: &[u8]) -> Result<(), Failed>
         ensures ok { OnOk result (Appends (Some self.old.bytes) (Some self.new.bytes) bytes.now) }
         ensures err { OnErr result (TakesPrefix (Some self.old.bytes) (Some self.new.bytes) bytes.now) }
-        ensures cause { OnErr result (Rose self.old.faults self.new.faults) }
+        ensures cause { FailsOnlyWhereRose result self.old.faults self.new.faults }
         ensures later { self.old.faults ≤ self.new.faults }
 
         // Exactly when it fails, and what the call leaves.

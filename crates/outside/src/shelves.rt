@@ -10,6 +10,9 @@ use crate::texts::Text;
 use std::alloc::Global;
 use std::marker::Model;
 
+#[cfg(test)]
+mod tests;
+
 /// A library in memory, which tells what it holds and fails only at the calls that it was told.
 #[derive(Debug, Drop)]
 pub struct Shelf {

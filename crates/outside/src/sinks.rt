@@ -1,6 +1,6 @@
 // Where the program writes.
 ghost use Rattle.std.specs.Prelude.{◌≡◌, ℕ, ◌≤◌, List, Option, OnOk, OnErr};
-ghost use Rattle.outside.specs.Faults.{Rose};
+ghost use Rattle.outside.specs.Faults.{FailsOnlyWhereRose};
 ghost use Rattle.outside.specs.Sink.{Appends, TakesPrefix};
 
 use crate::faults::Failed;
@@ -19,7 +19,7 @@ pub trait Sink {
     fn write(&mut self, bytes: &[u8]) -> Result<(), Failed>
         ensures ok { OnOk result (Appends (written self.old) (written self.new) bytes.now) }
         ensures err { OnErr result (TakesPrefix (written self.old) (written self.new) bytes.now) }
-        ensures cause { OnErr result (Rose (fault_count self.old) (fault_count self.new)) }
+        ensures cause { FailsOnlyWhereRose result (fault_count self.old) (fault_count self.new) }
         ensures later { fault_count self.old ≤ fault_count self.new };
 
     /// The count of faults, which never falls. Over a real stream it stops at its greatest value.

@@ -1,11 +1,14 @@
 //! The outside as traits: where files come from (`Library`), where bytes go to (`Sink`), and what
 //! is passed before each turn of a worker (`Gate`).
 //!
-//! Each trait comes with forms in memory, for tests and for whole runs of which everything is
-//! known, and with adapters over the system's files and streams. A fault is reported only where
-//! the object's own count of faults rose in that call, so a caller cannot make one up. A form in
-//! memory tells what it holds or has taken; an adapter tells nothing, and is part of what is
-//! trusted.
+//! A call fails only where the object's own count of faults rose in that call, so a layer above
+//! that answers with a fault can show that there was one. What a library holds, and which bytes a
+//! sink has taken, an object may tell in proofs, and then its answers are tied to that.
+//!
+//! Two kinds of objects stand behind the traits. The forms in memory (`Shelf`, `Page`) tell
+//! everything, and fail exactly where they were told to. The adapters over the system
+//! (`FileLibrary`, `StdSink`, `StdNotes`) tell nothing: they are proved to meet their traits, and
+//! that they hand the bytes on is trusted, and tested.
 //!
 //! The crate stands on the standard library alone.
 #![tactic(auto)]

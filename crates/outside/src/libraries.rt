@@ -17,8 +17,7 @@ pub enum Fetch {
 
 /// Files by their names.
 ///
-/// A library may tell what it holds, by `held`. Then its answers are tied to that, and no call
-/// changes it.
+/// A library may tell which names it holds and with what bytes. No call changes that.
 pub trait Library {
     // Which names it holds and with what bytes, or nothing where it does not tell.
     ghost held: { Self → Option Files };

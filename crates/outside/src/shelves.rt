@@ -1,9 +1,9 @@
 // A library in memory.
-ghost use Rattle.std.specs.Prelude.{◌≡◌, ℕ, ◌+◌, ◌≤◌, length, map, take, find, Some, IfOk, IfErr, IsTrue};
-ghost use Rattle.std.specs.Option.{option_map, option_copied};
+ghost use Rattle.std.specs.Prelude.{◌≡◌, ◌+◌, ◌≤◌, length, map, take, find, Some, IfOk, IfErr};
+ghost use Rattle.std.specs.Option.{option_copied};
 ghost use Rattle.std.specs.Str.{bytes_eq};
-ghost use Rattle.outside.specs.Library.{Files, Held, FetchCause};
-ghost use Rattle.outside.specs.Shelf.{Contents, file_of, files_of, answer, Answers, after_call};
+ghost use Rattle.outside.specs.Library.{Held, FetchCause};
+ghost use Rattle.outside.specs.Shelf.{file_of, files_of, answer, Answers, after_call};
 
 use crate::libraries::{Fetch, Library};
 use crate::texts::Text;

@@ -7,7 +7,7 @@ use crate::faults::Failed;
 
 /// A stream that takes bytes.
 ///
-/// A sink may tell which bytes it has taken since it was made, by `written`.
+/// A sink may tell all the bytes that it has taken.
 pub trait Sink {
     // All bytes taken so far, or nothing where the sink does not tell.
     ghost written: { Self → Option (List ℕ) };

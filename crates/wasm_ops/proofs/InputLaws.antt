@@ -3,9 +3,10 @@ use Rattle.std.proofs.Common.{◌≡◌, inl, inr, ℕ, ◌-◌, ◌<◌, List, 
 use Rattle.wasm_ops.specs.declared.faults.Fault.{Fault}
 use Rattle.wasm_ops.specs.declared.numbers.Sign.{Sign}
 use Rattle.wasm_ops.specs.declared.numbers.LebFault.{LebFault}
-use Rattle.wasm_ops.specs.Input.{Input, Takes}
+use Rattle.wasm_ops.specs.Input.{Input, Takes, IsDecided}
 use Rattle.wasm_ops.specs.Numbers.{SpellsNumber, number_at}
 use Rattle.wasm_ops.specs.NumberInput.{ReadsNumber, RefusesNumber, fault_of, behind, placed, number_from}
+use Rattle.wasm_ops.proofs.Answers.{IsAnswer, decided}
 use Rattle.wasm_ops.proofs.NumberLaws.{Read, read_parts, number_spelt, spelt_number, number_refused, refused_number}
 
 -- a spelling is not empty
@@ -21,16 +22,12 @@ same_input a b at left =
     ap at_place at ∙ ap with_left left
 
 -- both sides of a number at a cursor
-pub record IsAnswer (sign : Sign) (bits : ℕ) (result : Result ℕ Fault) (before after : Input) : Type 0 where
-  pub found : IfOk result (λ number. ReadsNumber sign bits before number after)
-  pub shorter : OnOk result (length after.left < length before.left)
-  pub only : (number : ℕ) (there : Input) → ReadsNumber sign bits before number there → (result ≡ Ok number) × (after ≡ there)
-  pub refused : IfErr result (RefusesNumber sign bits before)
-  pub only_refused : (fault : Fault) → RefusesNumber sign bits before fault → result ≡ Err fault
+abbrev pub IsNumberAnswer : Sign → (bits : ℕ) → Result ℕ Fault → (before after : Input) → Type 0
+IsNumberAnswer sign bits result before after = IsAnswer ℕ (ReadsNumber sign bits before) (RefusesNumber sign bits before) result before after
 
 read_answer
     : (sign : Sign) (bits : ℕ) (before : Input) (read : ℕ × List ℕ) → 0 < bits → number_at sign bits before.left ≡ Ok read
-    → IsAnswer sign bits (Ok read.0) before (behind before read.1)
+    → IsNumberAnswer sign bits (Ok read.0) before (behind before read.1)
 read_answer sign bits before read some e =
     let spelt = number_spelt sign bits before.left read.0 read.1 e in
     let shorter = spelt-shorter sign bits before.left read.0 read.1 spelt in
@@ -51,7 +48,7 @@ read_answer sign bits before read some e =
 
 fault_answer
     : (sign : Sign) (bits : ℕ) (before : Input) (why : LebFault) → 0 < bits → number_at sign bits before.left ≡ Err why
-    → IsAnswer sign bits (Err (fault_of why before)) before before
+    → IsNumberAnswer sign bits (Err (fault_of why before)) before before
 fault_answer sign bits before why some e =
     record {
       found = tt;
@@ -68,26 +65,40 @@ fault_answer sign bits before why some e =
 
 taken_ok
     : (sign : Sign) (bits : ℕ) (before after : Input) (number : ℕ) (read : Read) → 0 < bits → number_at sign bits before.left ≡ read
-    → placed before read ≡ Ok (number, after) → IsAnswer sign bits (Ok number) before after
+    → placed before read ≡ Ok (number, after) → IsNumberAnswer sign bits (Ok number) before after
 taken_ok sign bits before after number (Ok read) some e takes =
-    let P : ℕ × Input → Type 0 = λ there. IsAnswer sign bits (Ok there.0) before there.1 in
+    let P : ℕ × Input → Type 0 = λ there. IsNumberAnswer sign bits (Ok there.0) before there.1 in
     let same : (read.0, behind before read.1) ≡ (number, after) = cc in
     subst P same (read_answer sign bits before read some e)
 taken_ok sign bits before after number (Err why) some e takes = let bad : ⊥ = cc in absurd bad
 
 taken_err
     : (sign : Sign) (bits : ℕ) (before : Input) (fault : Fault) (read : Read) → 0 < bits → number_at sign bits before.left ≡ read
-    → placed before read ≡ Err fault → IsAnswer sign bits (Err fault) before before
+    → placed before read ≡ Err fault → IsNumberAnswer sign bits (Err fault) before before
 taken_err sign bits before fault (Ok read) some e takes = let bad : ⊥ = cc in absurd bad
 taken_err sign bits before fault (Err why) some e takes =
-    let P : Fault → Type 0 = λ f. IsAnswer sign bits (Err f) before before in
+    let P : Fault → Type 0 = λ f. IsNumberAnswer sign bits (Err f) before before in
     let same : fault_of why before ≡ fault = cc in
     subst P same (fault_answer sign bits before why some e)
 
 pub taken
     : (sign : Sign) (bits : ℕ) (result : Result ℕ Fault) (before after : Input) → 0 < bits
-    → Takes (number_from sign bits before) result before after → IsAnswer sign bits result before after
+    → Takes (number_from sign bits before) result before after → IsNumberAnswer sign bits result before after
 taken sign bits (Ok number) before after some takes = taken_ok sign bits before after number (number_at sign bits before.left) some refl takes
 taken sign bits (Err fault) before after some takes =
-    let P : Input → Type 0 = IsAnswer sign bits (Err fault) before in
+    let P : Input → Type 0 = IsNumberAnswer sign bits (Err fault) before in
     subst P (sym takes.1) (taken_err sign bits before fault (number_at sign bits before.left) some refl takes.0)
+
+-- each number is spelt or refused, in one way
+
+decided_as
+    : (sign : Sign) (bits : ℕ) (before : Input) (read : Result (ℕ × Input) Fault) → 0 < bits → number_from sign bits before ≡ read
+    → IsDecided ℕ (ReadsNumber sign bits before) (RefusesNumber sign bits before)
+decided_as sign bits before (Ok read) some e =
+    decided ℕ (ReadsNumber sign bits before) (RefusesNumber sign bits before) (Ok read.0) before read.1 (taken sign bits (Ok read.0) before read.1 some e)
+decided_as sign bits before (Err fault) some e =
+    decided ℕ (ReadsNumber sign bits before) (RefusesNumber sign bits before) (Err fault) before before (taken sign bits (Err fault) before before some (e, refl))
+
+pub number_decided
+    : (sign : Sign) (bits : ℕ) (before : Input) → 0 < bits → IsDecided ℕ (ReadsNumber sign bits before) (RefusesNumber sign bits before)
+number_decided sign bits before some = decided_as sign bits before (number_from sign bits before) some refl

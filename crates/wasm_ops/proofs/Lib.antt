@@ -1,6 +1,9 @@
+mod NumberExamples
 mod SequenceExamples
+pub mod Answers
 pub mod InputLaws
 pub mod NameLaws
+pub mod NestedLaws
 pub mod NumberLaws
 pub mod NumberSteps
 pub mod Powers

@@ -7,18 +7,15 @@ use Rattle.std.proofs.lemmas.Str.{IsUtf8-from_is_utf8, is_utf8-from_IsUtf8}
 use Rattle.std.specs.Str.{IsUtf8, is_utf8}
 use Rattle.wasm_ops.specs.declared.faults.Fault.{Fault}
 use Rattle.wasm_ops.specs.declared.numbers.Sign.TheVariants.{Unsigned}
-use Rattle.wasm_ops.specs.Input.{Input, end_of, cut_short, Takes, bytes_from}
+use Rattle.wasm_ops.specs.Input.{Input, end_of, cut_short, Takes, bytes_from, IsDecided}
 use Rattle.wasm_ops.specs.NumberInput.{ReadsNumber, RefusesNumber, number_from}
-use Rattle.wasm_ops.specs.NameInput.{ReadsName, RefusesName, not_utf8, text_from, counted_from, name_from}
-use Rattle.wasm_ops.proofs.InputLaws.{IsAnswer, taken, same_input}
+use Rattle.wasm_ops.specs.NameInput.{ReadsName, ReadsPair, RefusesName, not_utf8, text_from, counted_from, name_from}
+use Rattle.wasm_ops.proofs.Answers.{IsAnswer, decided}
+use Rattle.wasm_ops.proofs.InputLaws.{IsNumberAnswer, taken, same_input}
 
 -- both sides of a name at a cursor
-pub record IsNameAnswer (result : Result (ℕ × ℕ) Fault) (before after : Input) : Type 0 where
-  pub found : IfOk result (λ name. ReadsName before name.0 name.1 after)
-  pub shorter : OnOk result (length after.left < length before.left)
-  pub only : (first len : ℕ) (there : Input) → ReadsName before first len there → (result ≡ Ok (first, len)) × (after ≡ there)
-  pub refused : IfErr result (RefusesName before)
-  pub only_refused : (fault : Fault) → RefusesName before fault → result ≡ Err fault
+abbrev pub IsNameAnswer : Result (ℕ × ℕ) Fault → (before after : Input) → Type 0
+IsNameAnswer result before after = IsAnswer (ℕ × ℕ) (ReadsPair before) (RefusesName before) result before after
 
 -- the same of what the definition says
 abbrev IsNameOf : Result ((ℕ × ℕ) × Input) Fault → Input → Type 0
@@ -27,19 +24,19 @@ IsNameOf (Err fault) before = IsNameAnswer (Err fault) before before
 
 -- The length: it is the only one.
 
-counted : (before : Input) (len : ℕ) (start : Input) → number_from Unsigned 32 before ≡ Ok (len, start) → IsAnswer Unsigned 32 (Ok len) before start
+counted : (before : Input) (len : ℕ) (start : Input) → number_from Unsigned 32 before ≡ Ok (len, start) → IsNumberAnswer Unsigned 32 (Ok len) before start
 counted before len start e = taken Unsigned 32 (Ok len) before start (omega arith) e
 
-uncounted : (before : Input) (fault : Fault) → number_from Unsigned 32 before ≡ Err fault → IsAnswer Unsigned 32 (Err fault) before before
+uncounted : (before : Input) (fault : Fault) → number_from Unsigned 32 before ≡ Err fault → IsNumberAnswer Unsigned 32 (Err fault) before before
 uncounted before fault e = taken Unsigned 32 (Err fault) before before (omega arith) (e, refl)
 
 same_count
-    : (before : Input) (len : ℕ) (start : Input) → IsAnswer Unsigned 32 (Ok len) before start
+    : (before : Input) (len : ℕ) (start : Input) → IsNumberAnswer Unsigned 32 (Ok len) before start
     → (m : ℕ) (there : Input) → ReadsNumber Unsigned 32 before m there → (len ≡ m) × (start ≡ there)
 same_count before len start answer m there reads = let same = answer.only m there reads in let equal = same.0 in (cc, same.1)
 
 never_counted
-    : (before : Input) (fault : Fault) → IsAnswer Unsigned 32 (Err fault) before before
+    : (before : Input) (fault : Fault) → IsNumberAnswer Unsigned 32 (Err fault) before before
     → (m : ℕ) (there : Input) → ReadsNumber Unsigned 32 before m there → ⊥
 never_counted before fault answer m there reads = let same = answer.only m there reads in let equal = same.0 in cc
 
@@ -56,7 +53,7 @@ uncounted_answer before fault e =
     record {
       found = tt;
       shorter = tt;
-      only = λ first len there reads. absurd (never_counted before fault answer len reads.start reads.counted);
+      only = λ name there reads. absurd (never_counted before fault answer name.1 reads.start reads.counted);
       refused = inl answer.refused;
       only_refused = λ other refuses. elim refuses [
         | inl number ↦ let same = answer.only_refused other number in let equal : fault ≡ other = cc in ap refusal equal
@@ -69,7 +66,7 @@ uncounted_answer before fault e =
 
 -- a refusal of the number is none of a name that has one
 number_stands
-    : (before : Input) (len : ℕ) (start : Input) → IsAnswer Unsigned 32 (Ok len) before start
+    : (before : Input) (len : ℕ) (start : Input) → IsNumberAnswer Unsigned 32 (Ok len) before start
     → (fault : Fault) → RefusesNumber Unsigned 32 before fault → ⊥
 number_stands before len start answer fault refuses = let same = answer.only_refused fault refuses in cc
 
@@ -85,7 +82,7 @@ text_there : (start : Input) (text rest : List ℕ) (len : ℕ) → start.left �
 text_there start text rest len spelt whole = omega (arith, ap (λ (xs : List ℕ). length xs) spelt, length-append text rest)
 
 cut_answer
-    : (before : Input) (len : ℕ) (start : Input) → IsAnswer Unsigned 32 (Ok len) before start
+    : (before : Input) (len : ℕ) (start : Input) → IsNumberAnswer Unsigned 32 (Ok len) before start
     → length start.left < len → IsNameAnswer (Err (cut_short start)) before before
 cut_answer before len start answer short =
     let same_end : end_of start ≡ end_of before = answer.found.same_end in
@@ -93,9 +90,9 @@ cut_answer before len start answer short =
     record {
       found = tt;
       shorter = tt;
-      only = λ first m there reads.
-          let same = same_count before len start answer m reads.start reads.counted in
-          let room = text_there reads.start reads.text there.left m reads.spelt reads.whole in
+      only = λ name there reads.
+          let same = same_count before len start answer name.1 reads.start reads.counted in
+          let room = text_there reads.start reads.text there.left name.1 reads.spelt reads.whole in
           let lengths = ap (λ (input : Input). length input.left) same.1 in
           let bad : ⊥ = omega arith in absurd bad;
       refused = inr (inl record { len = len; start = start; counted = answer.found; short = short; told = same_place });
@@ -130,7 +127,7 @@ abbrev behind_text : ℕ → Input → Input
 behind_text len start = record { at = start.at + len; left = drop len start.left }
 
 text_answer
-    : (before : Input) (len : ℕ) (start : Input) → IsAnswer Unsigned 32 (Ok len) before start
+    : (before : Input) (len : ℕ) (start : Input) → IsNumberAnswer Unsigned 32 (Ok len) before start
     → len ≤ length start.left → is_utf8 (take len start.left) ≡ true → IsNameAnswer (Ok (start.at, len)) before (behind_text len start)
 text_answer before len start answer room utf8 =
     let same_end : end_of start ≡ end_of before = answer.found.same_end in
@@ -148,14 +145,14 @@ text_answer before len start answer room utf8 =
         same_end = omega arith;
       };
       shorter = omega arith;
-      only = λ first m there reads.
-          let same = same_count before len start answer m reads.start reads.counted in
-          let parts = same_text len start m reads.start reads.text there.left same reads.spelt reads.whole in
-          let starts : start.at ≡ first = ap (λ (input : Input). input.at) same.1 ∙ sym reads.placed in
+      only = λ name there reads.
+          let same = same_count before len start answer name.1 reads.start reads.counted in
+          let parts = same_text len start name.1 reads.start reads.text there.left same reads.spelt reads.whole in
+          let starts : start.at ≡ name.0 = ap (λ (input : Input). input.at) same.1 ∙ sym reads.placed in
           let count = same.0 in
           let ends = reads.same_end in
           let lengths = ap (λ (xs : List ℕ). length xs) parts.1 in
-          (name_same start.at len first m starts count, same_input (behind_text len start) there (omega arith) parts.1);
+          (name_same start.at len name.0 name.1 starts count, same_input (behind_text len start) there (omega arith) parts.1);
       refused = tt;
       only_refused = λ other refuses. elim refuses [
         | inl number ↦ absurd (number_stands before len start answer other number)
@@ -174,16 +171,16 @@ text_answer before len start answer room utf8 =
     }
 
 spoilt_answer
-    : (before : Input) (len : ℕ) (start : Input) → IsAnswer Unsigned 32 (Ok len) before start
+    : (before : Input) (len : ℕ) (start : Input) → IsNumberAnswer Unsigned 32 (Ok len) before start
     → len ≤ length start.left → is_utf8 (take len start.left) ≡ false → IsNameAnswer (Err (not_utf8 start)) before before
 spoilt_answer before len start answer room spoilt =
     let no_text : IsUtf8 (take len start.left) → ⊥ = λ utf8. let passes = is_utf8-from_IsUtf8 (take len start.left) utf8 in cc in
     record {
       found = tt;
       shorter = tt;
-      only = λ first m there reads.
-          let same = same_count before len start answer m reads.start reads.counted in
-          let parts = same_text len start m reads.start reads.text there.left same reads.spelt reads.whole in
+      only = λ name there reads.
+          let same = same_count before len start answer name.1 reads.start reads.counted in
+          let parts = same_text len start name.1 reads.start reads.text there.left same reads.spelt reads.whole in
           absurd (no_text (subst IsUtf8 (sym parts.0) reads.utf8));
       refused = inr (inr record {
         len = len;
@@ -214,14 +211,14 @@ spoilt_answer before len start answer room spoilt =
 -- All cases.
 
 name_at_text
-    : (before : Input) (len : ℕ) (start : Input) → IsAnswer Unsigned 32 (Ok len) before start → len ≤ length start.left
+    : (before : Input) (len : ℕ) (start : Input) → IsNumberAnswer Unsigned 32 (Ok len) before start → len ≤ length start.left
     → (passes : Bool) → is_utf8 (take len start.left) ≡ passes
     → IsNameOf (if passes then Ok ((start.at, len), behind_text len start) else Err (not_utf8 start)) before
 name_at_text before len start answer room true e = text_answer before len start answer room e
 name_at_text before len start answer room false e = spoilt_answer before len start answer room e
 
 name_at_start
-    : (before : Input) (len : ℕ) (start : Input) → IsAnswer Unsigned 32 (Ok len) before start
+    : (before : Input) (len : ℕ) (start : Input) → IsNumberAnswer Unsigned 32 (Ok len) before start
     → (length start.left < len) ⊎ (len ≤ length start.left) → IsNameOf (text_from len start (bytes_from len start)) before
 name_at_start before len start answer (inl short) = rw (lt-leb len (length start.left) short) (cut_answer before len start answer short)
 name_at_start before len start answer (inr room) =
@@ -244,3 +241,12 @@ name_taken (Err fault) before after takes =
     let P : Result ((ℕ × ℕ) × Input) Fault → Type 0 = λ taken. IsNameOf taken before in
     let Q : Input → Type 0 = IsNameAnswer (Err fault) before in
     subst Q (sym takes.1) (subst P takes.0 (name_stands before))
+
+-- each name is spelt or refused, in one way
+
+decided_as : (before : Input) (read : Result ((ℕ × ℕ) × Input) Fault) → IsNameOf read before → IsDecided (ℕ × ℕ) (ReadsPair before) (RefusesName before)
+decided_as before (Ok read) answer = decided (ℕ × ℕ) (ReadsPair before) (RefusesName before) (Ok read.0) before read.1 answer
+decided_as before (Err fault) answer = decided (ℕ × ℕ) (ReadsPair before) (RefusesName before) (Err fault) before before answer
+
+pub name_decided : (before : Input) → IsDecided (ℕ × ℕ) (ReadsPair before) (RefusesName before)
+name_decided before = decided_as before (name_from before) (name_stands before)

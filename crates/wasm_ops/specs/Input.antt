@@ -1,5 +1,5 @@
 -- What a cursor has before it, and how a call takes from it (WebAssembly Core 1.0, section 5.2).
-use Rattle.std.specs.Prelude.{◌≡◌, ℕ, ◌+◌, nat_le, if◌then◌else◌, List, [], ◌∷◌, length, take, drop, Result, Ok, Err, MatchResult}
+use Rattle.std.specs.Prelude.{◌≡◌, ◌⊎◌, ℕ, ◌+◌, nat_le, if◌then◌else◌, List, [], ◌∷◌, length, take, drop, Result, Ok, Err, MatchResult}
 use Rattle.wasm_ops.specs.declared.faults.Fault.{Fault}
 
 -- the place of the next byte, and the bytes from there to the end of the window
@@ -14,6 +14,13 @@ end_of input = input.at + length input.left
 -- what a call answers, where the definition says what is read and what is left behind it: a refusal leaves all as it was
 abbrev pub Takes : {A : Type 0} → Result (A × Input) Fault → Result A Fault → (before after : Input) → Type 0
 Takes taken result before after = MatchResult result (λ x. taken ≡ Ok (x, after)) (λ fault. (taken ≡ Err fault) × (after ≡ before))
+
+-- of what lies ahead one of the two holds, in one way: something is read, or all is refused with a fault
+pub record IsDecided (A : Type 0) (Reads : A → Input → Type 0) (Refuses : Fault → Type 0) : Type 0 where
+  pub one_holds : ((x : A) × (there : Input) × Reads x there) ⊎ ((fault : Fault) × Refuses fault)
+  pub never_both : (x : A) (there : Input) (fault : Fault) → Reads x there → Refuses fault → ⊥
+  pub one_value : (x y : A) (there here : Input) → Reads x there → Reads y here → (x ≡ y) × (there ≡ here)
+  pub one_fault : (f g : Fault) → Refuses f → Refuses g → f ≡ g
 
 -- the window ends within an item
 abbrev pub cut_short : Input → Fault

@@ -17,6 +17,10 @@ pub record ReadsName (before : Input) (first len : ℕ) (after : Input) : Type 0
   pub utf8 : IsUtf8 text
   pub same_end : end_of after ≡ end_of before
 
+-- the same, of the place and the length as a pair
+abbrev pub ReadsPair : (before : Input) (name : ℕ × ℕ) (after : Input) → Type 0
+ReadsPair before name after = ReadsName before name.0 name.1 after
+
 -- the window ends within the text
 pub record CutsName (before : Input) (fault : Fault) : Type 0 where
   pub len : ℕ

@@ -8,6 +8,7 @@
 mod cursors;
 mod faults;
 mod int_ops;
+pub mod laws;
 mod lists;
 mod modules;
 mod names;
@@ -29,5 +30,7 @@ pub use operators::Op;
 pub use traps::Trap;
 pub use types::{Access, FuncType, Limits, ValType};
 
+#[cfg(test)]
+mod cursor_tests;
 #[cfg(test)]
 mod tests;

@@ -9,7 +9,7 @@ pub returns-clause-shorter : goal.returns-clause-shorter
 returns-clause-shorter c = (name_taken _ _ _ c.take_name.ensures).shorter
 
 pub returns-clause-only : goal.returns-clause-only
-returns-clause-only c = (name_taken _ _ _ c.take_name.ensures).only
+returns-clause-only c = λ first len after. (name_taken _ _ _ c.take_name.ensures).only (first, len) after
 
 pub returns-clause-refused : goal.returns-clause-refused
 returns-clause-refused c = (name_taken _ _ _ c.take_name.ensures).refused

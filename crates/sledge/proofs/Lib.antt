@@ -1,0 +1,9 @@
+pub mod Balances
+pub mod BuiltModules
+pub mod Clauses
+pub mod CutFiles
+pub mod Decimals
+pub mod Forms
+pub mod Operators
+pub mod Pieces
+pub mod Sections

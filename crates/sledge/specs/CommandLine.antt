@@ -1,0 +1,59 @@
+-- The shapes of a command line: which words ask for which command.
+use Rattle.std.specs.Prelude.{ℕ, ◌^◌, nat_le, nat_lt, ◌&&◌, Bool, if◌then◌else◌, List, [], ◌∷◌, length, codes, Option, None, Some}
+use Rattle.std.specs.List.{list_all}
+use Rattle.std.specs.Option.{option_map}
+use Rattle.std.specs.Str.{bytes_eq}
+use Rattle.std.specs.Char.{is_ascii_digit}
+use Rattle.std.specs.Str.Parse.{digits_value}
+use Rattle.sledge.specs.declared.command.Command.{Command}
+use Rattle.sledge.specs.declared.command.Command.TheVariants as command
+use Rattle.sledge.specs.declared.command.Invoke.{Invoke}
+
+-- the words of an `invoke`: two names of files, and the fuel limit
+pub record InvokeWords : Type 0 where
+  pub module_name : List ℕ
+  pub body_name : List ℕ
+  pub budget : ℕ
+
+-- what the words of a command line ask for
+pub data Asked : Type 0 where
+  AsksHelp : Asked
+  AsksVersion : Asked
+  AsksInvoke : (words : InvokeWords) → Asked
+
+-- one to twenty decimal digits
+abbrev pub is_decimal : List ℕ → Bool
+is_decimal digits = nat_lt 0 (length digits) && nat_le (length digits) 20 && list_all is_ascii_digit digits
+
+-- a number among the words: one to twenty decimal digits, of a value that is at most 2^40
+abbrev pub budget_of : List ℕ → Option ℕ
+budget_of digits = if is_decimal digits && nat_le (digits_value 10 digits) (2 ^ 40) then Some (digits_value 10 digits) else None
+
+-- the commands of one word
+abbrev pub lone_word : List ℕ → Option Asked
+lone_word word =
+    if bytes_eq word (codes "--help") then Some AsksHelp
+    else (if bytes_eq word (codes "--version") then Some AsksVersion else None)
+
+-- the commands of four words
+abbrev pub four_words : List ℕ → List ℕ → List ℕ → List ℕ → Option Asked
+four_words word name body digits =
+    if bytes_eq word (codes "invoke")
+    then option_map (λ budget. AsksInvoke (record { module_name = name; body_name = body; budget = budget })) (budget_of digits)
+    else None
+
+-- what these words ask for, or none where they have none of the shapes
+abbrev pub command_of : List (List ℕ) → Option Asked
+command_of (word ∷ []) = lone_word word
+command_of (word ∷ name ∷ body ∷ digits ∷ []) = four_words word name body digits
+command_of _ = None
+
+-- the words of an `invoke` seen from the code, where a name is a text behind a reference
+abbrev pub invoke_view : Invoke → InvokeWords
+invoke_view i = record { module_name = i.module_name.now; body_name = i.body_name.now; budget = i.budget }
+
+-- the same of each command
+abbrev pub command_view : Command → Asked
+command_view command.Help = AsksHelp
+command_view command.Version = AsksVersion
+command_view (command.Invoke i) = AsksInvoke (invoke_view i)

@@ -1,0 +1,9 @@
+pub mod BuiltModule
+pub mod CommandLine
+pub mod Delivery
+pub mod Endings
+pub mod Execution
+pub mod Grammar
+pub mod Promises
+pub mod Reading
+pub mod Statuses

@@ -1,0 +1,43 @@
+//! Writing what a command has to say: first its text, then its note.
+
+ghost use Rattle.std.specs.Prelude.{◌≡◌, ◌≤◌, MatchResult, OnOk, OnErr};
+ghost use Rattle.outside.specs.Faults.{Rose};
+ghost use Rattle.outside.specs.Sink.{Appends, TakesPrefix};
+ghost use Rattle.sledge.specs.Delivery.{Wrote, WroteInPart};
+
+use outside::{Failed, Sink};
+
+/// The most bytes that are handed to a sink in one call.
+const PIECE: usize = 65_536;
+
+/// Writes the text to `out`, and when it is all written the note to `notes`.
+pub fn deliver<S: Sink, N: Sink>(
+    text: &[u8],
+    note: &[u8],
+    out: &mut S,
+    notes: &mut N,
+) -> Result<(), Failed>
+    ensures all { OnOk result (Wrote text.now note.now (S.written out.old) (S.written out.new) (N.written notes.old) (N.written notes.new)) }
+    ensures part { OnErr result (WroteInPart text.now note.now
+        (S.written out.old) (S.written out.new) (S.fault_count out.old) (S.fault_count out.new)
+        (N.written notes.old) (N.written notes.new) (N.fault_count notes.old) (N.fault_count notes.new)) }
+{
+    write_pieces(text, out)?;
+    write_pieces(note, notes)
+}
+
+/// Writes the bytes in pieces of `PIECE` bytes and a last shorter one. No bytes are no call.
+fn write_pieces<S: Sink>(bytes: &[u8], sink: &mut S) -> Result<(), Failed>
+    ensures all { OnOk result (Appends (S.written sink.old) (S.written sink.new) bytes.now) }
+    ensures some { OnErr result (TakesPrefix (S.written sink.old) (S.written sink.new) bytes.now) }
+    ensures cause { OnErr result (Rose (S.fault_count sink.old) (S.fault_count sink.new)) }
+    ensures later { S.fault_count sink.old ≤ S.fault_count sink.new }
+{
+    let mut rest = bytes;
+    'pieces: while !rest.is_empty() {
+        let (piece, behind) = rest.split_at(PIECE.min(rest.len()));
+        sink.write(piece)?;
+        rest = behind;
+    }
+    Ok(())
+}

@@ -1,0 +1,138 @@
+//! How a command ends: its status, the text for the output and the line for the notes.
+
+ghost use Rattle.std.specs.Prelude.{◌≡◌, IfOk};
+ghost use Rattle.sledge.specs.Endings.{usage, not_read, module_fault, recording_fault, shown, answered, reported_verdict};
+ghost use Rattle.http_front.specs.Reported.{reported};
+
+use crate::machine::{Execution, Verdict};
+use crate::status::Status;
+use crate::texts::OCTET_STREAM;
+use http_front::{Outcome, reply_text};
+use std::alloc::{AllocError, Global};
+use std::marker::Model;
+
+/// What a command has to say, before any of it is written.
+#[derive(Debug, Drop)]
+pub struct Ending {
+    status: Status,
+    text: Vec<u8>,
+    note: String,
+}
+
+impl Model for Ending {
+    ghost use Rattle.std.specs.Prelude.{string_bytes};
+    ghost use Rattle.sledge.specs.Endings.{Ended};
+
+    ghost Value = { Ended };
+
+    ghost view = { λ e. record { status = e.status; text = e.text.items; note = string_bytes e.note } };
+}
+
+impl Ending {
+    /// The status, unless the writing fails.
+    pub fn status(&self) -> Status
+        ensures { result ≡ self.now.status }
+    {
+        self.status
+    }
+
+    /// What is due on the output.
+    pub fn text(&self) -> &[u8]
+        ensures { result.now ≡ self.now.text }
+    {
+        self.text.as_slice()
+    }
+
+    /// What is due on the notes: one line, or nothing.
+    pub fn note(&self) -> &str
+        ensures { result.now ≡ self.now.note }
+    {
+        self.note.as_str()
+    }
+
+    /// The words have none of the shapes of a command.
+    pub fn usage(alloc: Global) -> Result<Ending, AllocError>
+        ensures { IfOk result (λ e. e ≡ usage) }
+    {
+        Ok(Ending {
+            status: Status::Usage,
+            text: Vec::new(alloc),
+            note: String::from_str(alloc, "usage\n")?,
+        })
+    }
+
+    /// The file of this name cannot be read.
+    pub fn not_read(alloc: Global, name: &str) -> Result<Ending, AllocError>
+        ensures { IfOk result (λ e. e ≡ not_read name.now) }
+    {
+        Ok(Ending {
+            status: Status::ReadFault,
+            text: Vec::new(alloc),
+            note: format!(in alloc; "read {name}\n")?,
+        })
+    }
+
+    /// The module of a route is refused.
+    pub fn module_fault(
+        alloc: Global,
+        route: u32,
+        number: u8,
+        place: u32,
+    ) -> Result<Ending, AllocError>
+        ensures { IfOk result (λ e. e ≡ module_fault route number place) }
+    {
+        Ok(Ending {
+            status: Status::ModuleFault {
+                route,
+                number,
+                place,
+            },
+            text: Vec::new(alloc),
+            note: format!(in alloc; "module {number} {route} {place}\n")?,
+        })
+    }
+
+    /// The recording, or the body of an `invoke`, is refused.
+    pub fn recording_fault(alloc: Global, number: u8) -> Result<Ending, AllocError>
+        ensures { IfOk result (λ e. e ≡ recording_fault number) }
+    {
+        Ok(Ending {
+            status: Status::RecordingFault(number),
+            text: Vec::new(alloc),
+            note: format!(in alloc; "recording {number}\n")?,
+        })
+    }
+
+    /// A text is shown.
+    pub fn shown(alloc: Global, text: &str) -> Result<Ending, AllocError>
+        ensures { IfOk result (λ e. e ≡ shown text.now) }
+    {
+        Ok(Ending {
+            status: Status::Ok,
+            text: Vec::from_slice(alloc, text.as_bytes())?,
+            note: String::new(alloc),
+        })
+    }
+
+    /// The module ran: the reply to a kept GET, and what the run cost.
+    pub fn answered(alloc: Global, run: Execution) -> Result<Ending, AllocError>
+        ensures { IfOk result (λ e. e ≡ answered run) }
+    {
+        let units = run.units;
+        Ok(Ending {
+            status: Status::Ok,
+            text: reply_text(alloc, outcome_of(run.verdict), OCTET_STREAM, false, true)?,
+            note: format!(in alloc; "units {units}\n")?,
+        })
+    }
+}
+
+/// What the reply reports of a verdict.
+fn outcome_of(verdict: Verdict) -> Outcome<'static>
+    ensures { reported result ≡ reported_verdict verdict }
+{
+    match verdict {
+        Verdict::Replied => Outcome::Bytes(&[]),
+        Verdict::Spent => Outcome::Spent,
+    }
+}

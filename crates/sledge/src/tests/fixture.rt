@@ -1,0 +1,96 @@
+//! A library of two files and two outputs, all in memory.
+
+ghost use Rattle.std.specs.Prelude.{◌≤◌, length};
+
+use crate::status::Status;
+use crate::top::run;
+use outside::{Cut, Library, OpenGate, Page, Shelf, Sink, Text};
+use std::alloc::{AllocError, Global};
+use std::thread::Threads;
+
+/// The room of each output.
+const ROOM: u64 = 4096;
+
+#[derive(Drop)]
+pub struct Outside {
+    pub lib: Shelf,
+    pub out: Page,
+    pub notes: Page,
+}
+
+impl Outside {
+    /// The files `m`, a module, and `b`, a body; outputs that take all.
+    pub fn new(alloc: Global, module: &[u8], body: &[u8]) -> Result<Outside, AllocError> {
+        Ok(Outside {
+            lib: shelf(alloc, module, body, Vec::new(alloc))?,
+            out: Page::new(alloc, ROOM, Vec::new(alloc))?,
+            notes: Page::new(alloc, ROOM, Vec::new(alloc))?,
+        })
+    }
+
+    /// Runs the words.
+    pub fn run<R: Threads + Sync>(
+        &mut self,
+        rt: &R,
+        alloc: Global,
+        words: &[&str],
+    ) -> Result<Status, AllocError> {
+        let mut owned = Vec::new(alloc);
+        for word in words {
+            owned.push(String::from_str(alloc, word)?)?;
+        }
+        Ok(run(
+            rt,
+            alloc,
+            owned.as_slice(),
+            &mut self.lib,
+            &mut self.out,
+            &mut self.notes,
+            &OpenGate,
+        ))
+    }
+
+    /// The counts of faults of the library, the output and the notes.
+    pub fn faults(&self) -> (u64, u64, u64) {
+        (self.lib.faults(), self.out.faults(), self.notes.faults())
+    }
+}
+
+/// The files `m` and `b`, where the reads of these numbers fail.
+pub fn shelf(
+    alloc: Global,
+    module: &[u8],
+    body: &[u8],
+    failing: Vec<u64>,
+) -> Result<Shelf, AllocError> {
+    let mut files = Vec::new(alloc);
+    files.push((
+        Text::new(String::from_str(alloc, "m")?),
+        Vec::from_slice(alloc, module)?,
+    ))?;
+    files.push((
+        Text::new(String::from_str(alloc, "b")?),
+        Vec::from_slice(alloc, body)?,
+    ))?;
+    Ok(Shelf::new(files, failing))
+}
+
+/// An output whose call of this number lets so many bytes pass and fails.
+pub fn failing_page(alloc: Global, call: u64, passes: u64) -> Result<Page, AllocError> {
+    Page::new(alloc, ROOM, vec![in alloc; Cut { call, passes }]?)
+}
+
+/// The module whose one function has these operators, each number in its shortest spelling.
+pub fn module(alloc: Global, ops: &[u8]) -> Result<Vec<u8>, AllocError>
+    requires { length ops.now ≤ 100 }
+{
+    let mut bytes = Vec::from_slice(
+        alloc,
+        b"\0asm\x01\0\0\0\x01\x04\x01\x60\0\0\x03\x02\x01\0\x07\x0A\x01\x06_start\0\0\x0A",
+    )?;
+    let body = ops.len() as u8 + 2;
+    bytes.extend_from_slice(&[body + 2, 1, body, 0])?;
+    bytes.extend_from_slice(ops)?;
+    bytes.push(0x0B)?;
+    Ok(bytes)
+}

@@ -1,9 +1,12 @@
 // The system's files and streams as a library and as sinks.
 //
-// These few lines are trusted: that they hand the bytes on is shown by tests, and no clause tells
-// what a file holds or what a stream has taken.
-ghost use Rattle.std.specs.Prelude.{◌≡◌, ◌+◌, ◌≤◌, ℕ, List, length, None, IfOk, IfErr};
+// They loop over `read` and `write` themselves, count each error, and go on after an interrupted
+// call. What a file of the system holds and what its streams take is trusted: no clause tells it.
+ghost use Rattle.std.specs.Prelude.{◌≡◌, ◌+◌, ◌≤◌, ℕ, List, length, take, None, IfOk, IfErr, OnOk, OnErr};
+ghost use Rattle.std.specs.Io.KnownBytes.{Keeps, Appends as Gains};
 ghost use Rattle.outside.specs.Faults.{one_more, FailsOnlyWhereRose};
+ghost use Rattle.outside.specs.Sink.{Appends, TakesPrefix};
+ghost use Rattle.outside.specs.Counted.{GainsPrefix};
 ghost use Rattle.outside.specs.Library.{FetchCause};
 
 use crate::faults::Failed;
@@ -123,7 +126,8 @@ impl<'a, R: Files> Library for FileLibrary<'a, R> {
 
 /// Standard output, or another stream of bytes, as a sink.
 ///
-/// Contracts see it as its count of faults.
+/// Contracts see it as the stream and its count of faults. It tells no bytes as a sink; what the
+/// stream itself tells is tied to what was written.
 #[derive(Drop)]
 pub struct StdSink<W> {
     stream: W,
@@ -134,25 +138,25 @@ pub struct StdSink<W> {
 pub type StdNotes<W> = StdSink<W>;
 
 impl<W> Model for StdSink<W> {
-    ghost use Rattle.std.specs.Prelude.{ℕ};
+    ghost use Rattle.outside.specs.Counted.{Counted};
 
-    ghost Value = { ℕ };
+    ghost Value = { Counted W };
 
-    ghost view = { λ sink. sink.faults };
+    ghost view = { λ sink. record { stream = sink.stream; faults = sink.faults } };
 }
 
 impl<W: Write> StdSink<W> {
     /// A sink over the stream, with no fault so far.
     pub fn new(stream: W) -> StdSink<W>
-        ensures { result ≡ 0 }
+        ensures { result ≡ record { stream = stream; faults = 0 } }
     {
         StdSink { stream, faults: 0 }
     }
 
     /// Counts an error. An interrupted call may be made again, and any other error ends the write.
     fn count(&mut self, error: &io::Error) -> Result<(), Failed>
-        ensures counted { self.new ≡ one_more self.old }
-        ensures later { self.old ≤ self.new }
+        ensures counted { self.new ≡ record self.old { faults = one_more self.old.faults } }
+        ensures later { self.old.faults ≤ self.new.faults }
     {
         self.faults = self.faults.saturating_add(1);
         if error.kind() == ErrorKind::Interrupted {
@@ -164,17 +168,36 @@ impl<W: Write> StdSink<W> {
 
     /// Counts a call that made no progress.
     fn stuck(&mut self) -> Failed
-        ensures counted { self.new ≡ one_more self.old }
-        ensures later { self.old ≤ self.new }
+        ensures counted { self.new ≡ record self.old { faults = one_more self.old.faults } }
+        ensures later { self.old.faults ≤ self.new.faults }
     {
         self.faults = self.faults.saturating_add(1);
         Failed
     }
 
-    /// Hands what the stream has kept back to the system.
+    /// Writes some of the bytes by one call, and says how many. An interrupted call wrote none.
+    fn write_some(&mut self, bytes: &[u8]) -> Result<usize, Failed>
+        ensures within { IfOk result (λ count. count ≤ length bytes.now) }
+        ensures ok { IfOk result (λ count. Gains (W.contents self.old.stream) (W.contents self.new.stream) (take count bytes.now)) }
+        ensures err { OnErr result (Keeps (W.contents self.old.stream) (W.contents self.new.stream)) }
+        ensures cause { FailsOnlyWhereRose result self.old.faults self.new.faults }
+        ensures later { self.old.faults ≤ self.new.faults }
+    {
+        match self.stream.write(bytes) {
+            Ok(0) => Err(self.stuck()),
+            Ok(count) => Ok(count),
+            Err(error) => {
+                self.count(&error)?;
+                Ok(0)
+            }
+        }
+    }
+
+    /// Hands to the system what the stream has held back.
     fn flush(&mut self) -> Result<(), Failed>
-        ensures cause { FailsOnlyWhereRose result self.old self.new }
-        ensures later { self.old ≤ self.new }
+        ensures kept { Keeps (W.contents self.old.stream) (W.contents self.new.stream) }
+        ensures cause { FailsOnlyWhereRose result self.old.faults self.new.faults }
+        ensures later { self.old.faults ≤ self.new.faults }
     {
         for _ in 0..u64::MAX {
             match self.stream.flush() {
@@ -189,19 +212,25 @@ impl<W: Write> StdSink<W> {
 impl<W: Write> Sink for StdSink<W> {
     ghost written = { λ _. None };
 
-    ghost fault_count = { λ faults. faults };
+    ghost fault_count = { λ sink. sink.faults };
 
-    fn write(&mut self, bytes: &[u8]) -> Result<(), Failed> {
+    fn write(&mut self, bytes: &[u8]) -> Result<(), Failed>
+        ensures ok { OnOk result (Appends None None bytes.now) }
+        ensures err { OnErr result (TakesPrefix None None bytes.now) }
+        ensures cause { FailsOnlyWhereRose result self.old.faults self.new.faults }
+        ensures later { self.old.faults ≤ self.new.faults }
+
+        // Where the stream tells what it holds, it holds the bytes, or a prefix of them.
+        ensures all { OnOk result (Gains (W.contents self.old.stream) (W.contents self.new.stream) bytes.now) }
+        ensures some { OnErr result (GainsPrefix (W.contents self.old.stream) (W.contents self.new.stream) bytes.now) }
+    {
         let mut rest = bytes;
         for _ in 0..u64::MAX {
             if rest.is_empty() {
                 return self.flush();
             }
-            match self.stream.write(rest) {
-                Ok(0) => return Err(self.stuck()),
-                Ok(count) => rest = rest.split_at(count).1,
-                Err(error) => self.count(&error)?,
-            }
+            let count = self.write_some(rest)?;
+            rest = rest.split_at(count).1;
         }
         Err(self.stuck())
     }

@@ -7,8 +7,9 @@
 //!
 //! Two kinds of objects stand behind the traits. The forms in memory (`Shelf`, `Page`) tell
 //! everything, and fail exactly where they were told to. The adapters over the system
-//! (`FileLibrary`, `StdSink`, `StdNotes`) tell nothing: they are proved to meet their traits, and
-//! that they hand the bytes on is trusted, and tested.
+//! (`FileLibrary`, `StdSink`, `StdNotes`) tell nothing. They are proved to meet their traits, and
+//! the sinks to hand their stream just the bytes written; what the system does with a call is
+//! trusted.
 //!
 //! The crate stands on the standard library alone.
 #![tactic(auto)]

@@ -1,5 +1,5 @@
 -- What is taken from a cursor by the reader of numbers is what the grammar has there.
-use Rattle.std.proofs.Common.{◌≡◌, inl, inr, ℕ, ◌-◌, ◌<◌, List, [], ◌∷◌, length, Result, Ok, Err, IfOk, IfErr, OnOk, refl, ap, sym, ◌∙◌, subst, arith}
+use Rattle.std.proofs.Common.{◌≡◌, inl, inr, ℕ, ◌-◌, ◌<◌, List, [], ◌∷◌, length, Result, Ok, Err, refl, ap, sym, ◌∙◌, subst, arith}
 use Rattle.wasm_ops.specs.declared.faults.Fault.{Fault}
 use Rattle.wasm_ops.specs.declared.numbers.Sign.{Sign}
 use Rattle.wasm_ops.specs.declared.numbers.LebFault.{LebFault}

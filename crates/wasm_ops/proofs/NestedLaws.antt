@@ -1,11 +1,10 @@
 -- A flat body gives back the sequence that it is the flat form of.
 use Rattle.std.proofs.Common.{◌≡◌, ℕ, ◌+◌, List, [], ◌∷◌, ◌++◌, length, Option, Some, None, refl, ap, sym, ◌∙◌, append_assoc, length-append, arith}
 use Rattle.std.specs.Option.{option_and_then}
-use Rattle.wasm_ops.specs.declared.types.ValType.{ValType}
 use Rattle.wasm_ops.specs.declared.operators.Op.{Op}
 use Rattle.wasm_ops.specs.declared.operators.Op.TheVariants.{Block, Loop, If, Else, End}
-use Rattle.wasm_ops.specs.Sequence.{Sequence, Done, Plain, InBlock, InLoop, InIf, InIfElse, is_plain, IsPlain, IsNested, size, flat, flat_body}
-use Rattle.wasm_ops.specs.Nested.{before_plain, before_block, before, nest, alone, nested}
+use Rattle.wasm_ops.specs.Sequence.{Sequence, Done, Plain, InBlock, InLoop, InIf, InIfElse, IsPlain, IsNested, size, flat, flat_body}
+use Rattle.wasm_ops.specs.Nested.{before, nest, alone, nested}
 
 -- an operator in front
 next : (op : Op) (ops : List Op) (ss : List Sequence) → nest ops ≡ Some ss → nest (op ∷ ops) ≡ before op ss

@@ -92,7 +92,7 @@ impl<'a> Cursor<'a> {
 
     /// A signed number of 32 bits in two's complement, in any spelling of at most 5 bytes.
     ///
-    /// Refused like `u32_leb`, at the fifth byte where its spare bits are not copies of the sign.
+    /// Refused like `u32_leb`, and the spare bits of the fifth byte have to be copies of the sign.
     pub fn s32_leb(&mut self) -> Result<u32, Fault>
         ensures value { Takes (number_from Signed 32 self.old) result self.old self.new }
         ensures found { IfOk result (λ number. ReadsNumber Signed 32 self.old number self.new) }
@@ -108,7 +108,7 @@ impl<'a> Cursor<'a> {
 
     /// A signed number of 64 bits in two's complement, in any spelling of at most 10 bytes.
     ///
-    /// Refused like `u32_leb`, at the tenth byte where its spare bits are not copies of the sign.
+    /// Refused like `u32_leb`, where the tenth byte is the last one, and its spare bits have to be copies of the sign.
     pub fn s64_leb(&mut self) -> Result<u64, Fault>
         ensures value { Takes (number_from Signed 64 self.old) result self.old self.new }
         ensures found { IfOk result (λ number. ReadsNumber Signed 64 self.old number self.new) }

@@ -2,10 +2,9 @@
 ghost use Rattle.std.specs.Prelude.{◌≡◌, ℕ, ◌+◌, ◌-◌, ◌^◌, ◌<◌, ◌≤◌, ◌↔◌, [], length, take, drop, Ok, Err, IsTrue, IfOk, IfErr, OnOk, OnErr};
 ghost use Rattle.wasm_ops.specs.declared.faults.Fault.{Fault as FaultValue};
 ghost use Rattle.wasm_ops.specs.declared.numbers.Sign.TheVariants.{Unsigned, Signed};
-ghost use Rattle.wasm_ops.specs.declared.numbers.LebFault.TheVariants.{CutShort};
 ghost use Rattle.std.specs.Result.{result_map_both};
 ghost use Rattle.std.specs.Str.{is_utf8};
-ghost use Rattle.wasm_ops.specs.Input.{Input, end_of, Takes, byte_from, bytes_from};
+ghost use Rattle.wasm_ops.specs.Input.{Input, end_of, Takes, cut_short, byte_from, bytes_from};
 ghost use Rattle.wasm_ops.specs.NameInput.{ReadsName, RefusesName, name_from};
 ghost use Rattle.wasm_ops.specs.NumberInput.{ReadsNumber, RefusesNumber, number_from, fault_of};
 
@@ -217,7 +216,7 @@ impl<'a> Cursor<'a> {
 
     // The window ends within an item.
     fn cut_short(&self) -> Fault
-        ensures { result ≡ fault_of CutShort self.now }
+        ensures { result ≡ cut_short self.now }
     {
         Fault {
             number: 1,

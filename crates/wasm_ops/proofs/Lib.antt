@@ -7,3 +7,5 @@ pub mod NestedLaws
 pub mod NumberLaws
 pub mod NumberSteps
 pub mod Powers
+mod Rotations
+mod TrapLaws

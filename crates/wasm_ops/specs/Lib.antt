@@ -1,8 +1,11 @@
+pub mod Arithmetic
 pub mod Input
 pub mod IntOps
 pub mod NameInput
 pub mod Nested
 pub mod NumberInput
 pub mod Numbers
+pub mod Operations
 pub mod Sequence
 pub mod Traps
+pub mod Values

@@ -1,22 +1,28 @@
 //! WebAssembly's types, operators, modules and numbers, as every layer above speaks of them.
 //!
 //! The types are those of WebAssembly Core 1.0, chapter 2, without floating point; `specs/Sequence.antt` has the nested body whose flat form a `Body` holds.
+//! The integer operators compute what section 4.3.2 says, on machine words where `specs/Arithmetic.antt` has whole numbers.
 //! Numbers are read from bytes by a `Cursor`, exactly where the bytes spell one (section 5.2).
 //! It stands on nothing but std.
 #![tactic(auto)]
 
+mod arithmetic;
 mod cursors;
 mod faults;
+mod i32_ops;
+mod i64_ops;
 mod int_ops;
 pub mod laws;
 mod lists;
 mod modules;
 mod names;
 mod numbers;
+mod operations;
 mod operators;
 mod traps;
 mod types;
 
+pub use arithmetic::{apply_binary, apply_unary};
 pub use cursors::Cursor;
 pub use faults::Fault;
 pub use int_ops::IntOp;
@@ -26,10 +32,13 @@ pub use modules::{
 };
 pub use names::Name;
 pub use numbers::{LebFault, Sign};
+pub use operations::{Arithmetic, BitCount, Operation, Relation};
 pub use operators::Op;
 pub use traps::Trap;
 pub use types::{Access, FuncType, Limits, ValType};
 
+#[cfg(test)]
+mod arithmetic_tests;
 #[cfg(test)]
 mod cursor_tests;
 #[cfg(test)]

@@ -1,0 +1,105 @@
+//! The operators of type i64 on machine words (WebAssembly Core 1.0, section 4.3.2).
+ghost use Rattle.std.specs.Prelude.{◌≡◌, ◌%◌};
+ghost use Rattle.wasm_ops.specs.declared.types.ValType.TheVariants.{I64};
+ghost use Rattle.wasm_ops.specs.Arithmetic.{bit_count, compute, div_s, div_u, holds, rem_s, rem_u, rotated_left, rotated_right};
+
+use crate::{Arithmetic, BitCount, Relation, Trap};
+
+impl Relation {
+    /// Whether it holds between two i64.
+    pub(crate) fn holds_i64(self, a: u64, b: u64) -> bool
+        ensures { result ≡ holds I64 self a b }
+    {
+        match self {
+            Relation::Eq => a == b,
+            Relation::Ne => a != b,
+            Relation::LtS => a.cast_signed() < b.cast_signed(),
+            Relation::LtU => a < b,
+            Relation::GtS => a.cast_signed() > b.cast_signed(),
+            Relation::GtU => a > b,
+            Relation::LeS => a.cast_signed() <= b.cast_signed(),
+            Relation::LeU => a <= b,
+            Relation::GeS => a.cast_signed() >= b.cast_signed(),
+            Relation::GeU => a >= b,
+        }
+    }
+}
+
+impl BitCount {
+    /// The count in an i64.
+    pub(crate) fn of_i64(self, a: u64) -> u32
+        ensures { result ≡ bit_count I64 self a }
+    {
+        match self {
+            BitCount::Clz => a.leading_zeros(),
+            BitCount::Ctz => a.trailing_zeros(),
+            BitCount::Popcnt => a.count_ones(),
+        }
+    }
+}
+
+impl Arithmetic {
+    /// What it makes of two i64, or its trap.
+    pub(crate) fn of_i64(self, a: u64, b: u64) -> Result<u64, Trap>
+        ensures { result ≡ compute I64 self a b }
+    {
+        match self {
+            Arithmetic::Add => Ok(a.wrapping_add(b)),
+            Arithmetic::Sub => Ok(a.wrapping_sub(b)),
+            Arithmetic::Mul => Ok(a.wrapping_mul(b)),
+            Arithmetic::DivS => quotient_signed(a, b),
+            Arithmetic::DivU => a.checked_div(b).ok_or(Trap::DivideByZero),
+            Arithmetic::RemS => remainder_signed(a, b),
+            Arithmetic::RemU => a.checked_rem(b).ok_or(Trap::DivideByZero),
+            Arithmetic::And => Ok(a & b),
+            Arithmetic::Or => Ok(a | b),
+            Arithmetic::Xor => Ok(a ^ b),
+            Arithmetic::Shl => Ok(a << (b % 64)),
+            Arithmetic::ShrS => Ok((a.cast_signed() >> (b % 64)).cast_unsigned()),
+            Arithmetic::ShrU => Ok(a >> (b % 64)),
+            Arithmetic::Rotl => Ok(rotl(a, b)),
+            Arithmetic::Rotr => Ok(rotr(a, b)),
+        }
+    }
+}
+
+/// `i64.div_s`
+fn quotient_signed(a: u64, b: u64) -> Result<u64, Trap>
+    ensures { result ≡ div_s I64 a b }
+{
+    if b == 0 {
+        return Err(Trap::DivideByZero);
+    }
+    if a == 0x8000_0000_0000_0000 && b == u64::MAX {
+        return Err(Trap::IntegerOverflow);
+    }
+    Ok((a.cast_signed() / b.cast_signed()).cast_unsigned())
+}
+
+/// `i64.rem_s`
+fn remainder_signed(a: u64, b: u64) -> Result<u64, Trap>
+    ensures { result ≡ rem_s I64 a b }
+{
+    if b == 0 {
+        return Err(Trap::DivideByZero);
+    }
+    Ok(
+        a.cast_signed()
+            .wrapping_rem(b.cast_signed())
+            .cast_unsigned(),
+    )
+}
+
+/// `i64.rotl`
+fn rotl(a: u64, b: u64) -> u64
+    ensures { result ≡ rotated_left I64 a (b % 64) }
+{
+    a.rotate_left((b % 64) as u32)
+}
+
+/// `i64.rotr`
+fn rotr(a: u64, b: u64) -> u64
+    ensures { result ≡ rotated_right I64 a (b % 64) }
+{
+    a.rotate_right((b % 64) as u32)
+}

@@ -1,18 +1,21 @@
 -- What the reader answers for a whole file is what the grammar of the modules that are run so far says of it.
-use Rattle.std.proofs.Common.{◌≡◌, ℕ, ◌+◌, ◌≤◌, ◌<◌, zero, suc, Bool, true, false, cond, ◌==◌, List, [], ◌∷◌, length, Option, None, Some, Result, Ok, Err, refl, ap, sym, subst, ◌∙◌, arith}
+use Rattle.std.proofs.Common.{◌≡◌, ℕ, ◌+◌, ◌≤◌, ◌<◌, zero, suc, ◌⊎◌, inl, inr, Bool, true, false, cond, ◌==◌, List, [], ◌∷◌, length, Option, None, Some, Result, Ok, Err, IfOk, IsErrOf, Vec, refl, ap, sym, subst, ◌∙◌, arith}
 use Rattle.std.specs.List.{AllByRecursion}
 use Rattle.std.proofs.lemmas.Bool.{eq-eqb, eqb-true}
 use Rattle.std.specs.Option.{option_and_then, option_map}
 use Rattle.wasm_ops.specs.Numbers.{number_at}
-use Rattle.wasm_ops.specs.declared.numbers.Sign.TheVariants.{Unsigned}
+use Rattle.wasm_ops.specs.declared.numbers.Sign.TheVariants.{Unsigned, Signed}
 use Rattle.wasm_ops.specs.declared.numbers.LebFault.{LebFault}
 use Rattle.wasm_ops.specs.declared.operators.Op.{Op}
-use Rattle.wasm_ops.specs.declared.operators.Op.TheVariants.{Nop, End}
+use Rattle.wasm_ops.specs.declared.operators.Op.TheVariants.{Unreachable, Nop, End, Drop, ConstI32, Binary}
+use Rattle.wasm_ops.proofs.InputLaws.{spelt-shorter}
 use Rattle.wasm_ops.proofs.NumberLaws.{number_spelt, spelt_number}
-use Rattle.sledge.specs.BuiltModule.{Operator, Operators, Body, Code, Front}
-use Rattle.sledge.specs.Execution.{IsRunnable}
-use Rattle.sledge.specs.Grammar.{Form, ◌⨾◌, Bytes, Number, Sized}
-use Rattle.sledge.specs.Reading.{Reader, bytes_at, number_is, operator_at, is_end, put_before, behind_operator, operators_at, body_at, exactly_with, operators_behind, sized_operators_at, code_content_at, code_at, all_of, front_at, file_at}
+use Rattle.sledge.specs.BuiltModule.{IsBuiltBinary, IsBuiltOperator, Operator, Operators, Body, Code, Front}
+use Rattle.sledge.specs.Grammar.{Form, ◌⨾◌, Bytes, Number, SignedNumber, Sized}
+use Rattle.sledge.specs.Reading.{Reader, bytes_at, number_is, constant_of, operator_at, is_end, put_before, behind_operator, operators_at, body_at, exactly_with, operators_behind, sized_operators_at, code_content_at, code_at, all_of, front_at, file_at, Gave}
+use Rattle.std.specs.declared.alloc.Global.{Global}
+use Rattle.sledge.specs.declared.built_module.Unread.{Unread}
+use Rattle.sledge.specs.declared.built_module.Unread.TheVariants as unread
 use Rattle.sledge.proofs.Operators.{step, goes, stops}
 use Rattle.sledge.proofs.Forms.{Decides, chained, chosen, bytes_decides, number_decides, front_decides}
 
@@ -67,34 +70,62 @@ data Told (op : Op) (bytes rest : List ℕ) : Type 0 where
   Closes : (ends : is_end op ≡ true) (bytes_are : bytes ≡ 0x0B ∷ rest) → Told op bytes rest
   Stands : (goes_on : is_end op ≡ false) (spelt : Operator op bytes rest) → Told op bytes rest
 
-read_of : Op → List ℕ → Option (Op × List ℕ)
-read_of op bytes = Some (op, bytes)
-
 inside : {A : Type 0} (x y : A) → Some x ≡ Some y → x ≡ y
 inside x y e = cc
 
-parts_of : (x y : Op × List ℕ) → Some x ≡ Some y → (x.0 ≡ y.0) × (x.1 ≡ y.1)
-parts_of x y e = (ap (λ (z : Op × List ℕ). z.0) (inside x y e), ap (λ (z : Op × List ℕ). z.1) (inside x y e))
+-- which way a test went
+pick : {A : Type 0} (b : Bool) (x y z : A) → cond b x y ≡ z → ((b ≡ true) × (x ≡ z)) ⊎ (y ≡ z)
+pick true x y z e = inl (refl, e)
+pick false x y z e = inr e
 
-told_of : (a b : Bool) (byte : ℕ) (bytes : List ℕ) (op : Op) (rest : List ℕ) → (a ≡ true → byte ≡ 0x01) → (b ≡ true → byte ≡ 0x0B)
-    → cond a (read_of Nop bytes) (cond b (read_of End bytes) None) ≡ Some (op, rest) → Told op (byte ∷ bytes) rest
-unfolding read_of
-told_of true b byte bytes op rest nop end e =
-    let first : byte ≡ 0x01 = nop refl in
-    let parts = parts_of (Nop, bytes) (op, rest) e in
-    let behind = parts.1 in
-    subst (λ o. Told o (byte ∷ bytes) rest) parts.0 (Stands refl (cc))
-told_of false true byte bytes op rest nop end e =
-    let first : byte ≡ 0x0B = end refl in
-    let parts = parts_of (End, bytes) (op, rest) e in
-    let behind = parts.1 in
-    subst (λ o. Told o (byte ∷ bytes) rest) parts.0 (Closes refl (cc))
-told_of false false byte bytes op rest nop end e = cc
+-- two readings of an operator with its rest are the same
+abbrev SameRead : (a : Op) (x : List ℕ) (b : Op) (y : List ℕ) → Type 0
+SameRead a x b y = let first : Op × List ℕ = (a, x) in let second : Op × List ℕ = (b, y) in Some first ≡ Some second
+
+-- an operator of one byte
+told_plain : (o : Op) (code byte : ℕ) (bytes : List ℕ) (op : Op) (rest : List ℕ) → is_end o ≡ false → Operator o (code ∷ bytes) bytes → (byte == code) ≡ true → SameRead o bytes op rest → Told op (byte ∷ bytes) rest
+told_plain o code byte bytes op rest goes_on spelt test read =
+    let P : Op × List ℕ → Type 0 = λ x. Told x.0 (byte ∷ bytes) x.1 in
+    let same : code ∷ bytes ≡ byte ∷ bytes = ap (λ (c : ℕ). c ∷ bytes) (sym (eqb-true byte code test)) in
+    subst P (inside (o, bytes) (op, rest) read) (Stands goes_on (subst (λ (b : List ℕ). Operator o b bytes) same spelt))
+
+told_end : (byte : ℕ) (bytes : List ℕ) (op : Op) (rest : List ℕ) → (byte == 0x0B) ≡ true → SameRead End bytes op rest → Told op (byte ∷ bytes) rest
+told_end byte bytes op rest test read =
+    let P : Op × List ℕ → Type 0 = λ x. Told x.0 (byte ∷ bytes) x.1 in
+    subst P (inside (End, bytes) (op, rest) read) (Closes refl (ap (λ (c : ℕ). c ∷ bytes) (eqb-true byte 0x0B test)))
+
+told_constant : (byte : ℕ) (bytes : List ℕ) (op : Op) (rest : List ℕ) (number : Result (ℕ × List ℕ) LebFault) → (byte == 0x41) ≡ true → number_at Signed 32 bytes ≡ number → constant_of number ≡ Some (op, rest) → Told op (byte ∷ bytes) rest
+told_constant byte bytes op rest (Err fault) test number read = cc
+told_constant byte bytes op rest (Ok found) test number read =
+    let P : Op × List ℕ → Type 0 = λ x. Told x.0 (byte ∷ bytes) x.1 in
+    subst P (inside (ConstI32 found.0, found.1) (op, rest) read)
+    (Stands refl (bytes, ap (λ (c : ℕ). c ∷ bytes) (eqb-true byte 0x41 test), number_spelt Signed 32 bytes found.0 found.1 number))
 
 operator_found : (bytes : List ℕ) (op : Op) (rest : List ℕ) → operator_at bytes ≡ Some (op, rest) → Told op bytes rest
-unfolding read_of
 operator_found [] op rest e = cc
-operator_found (byte ∷ bytes) op rest e = told_of (byte == 0x01) (byte == 0x0B) byte bytes op rest (eqb-true byte 0x01) (eqb-true byte 0x0B) e
+operator_found (byte ∷ bytes) op rest e =
+    elim (pick (byte == 0x00) _ _ _ e) [
+      | inl t ↦ told_plain Unreachable 0x00 byte bytes op rest refl refl t.0 t.1
+      | inr e ↦ elim (pick (byte == 0x01) _ _ _ e) [
+        | inl t ↦ told_plain Nop 0x01 byte bytes op rest refl refl t.0 t.1
+        | inr e ↦ elim (pick (byte == 0x0B) _ _ _ e) [
+          | inl t ↦ told_end byte bytes op rest t.0 t.1
+          | inr e ↦ elim (pick (byte == 0x1A) _ _ _ e) [
+            | inl t ↦ told_plain Drop 0x1A byte bytes op rest refl refl t.0 t.1
+            | inr e ↦ elim (pick (byte == 0x41) _ _ _ e) [
+              | inl t ↦ told_constant byte bytes op rest (number_at Signed 32 bytes) t.0 refl t.1
+              | inr e ↦ elim (pick (byte == 0x6A) _ _ _ e) [
+                | inl t ↦ told_plain (Binary 0x6A) 0x6A byte bytes op rest refl (inl refl, refl) t.0 t.1
+                | inr e ↦ elim (pick (byte == 0x6E) _ _ _ e) [
+                  | inl t ↦ told_plain (Binary 0x6E) 0x6E byte bytes op rest refl (inr refl, refl) t.0 t.1
+                  | inr e ↦ let bad : ⊥ = cc in absurd bad
+                ]
+              ]
+            ]
+          ]
+        ]
+      ]
+    ]
 
 -- an operator that is spelt
 record Reads (op : Op) (bytes rest : List ℕ) : Type 0 where
@@ -102,10 +133,34 @@ record Reads (op : Op) (bytes rest : List ℕ) : Type 0 where
   pub goes_on : is_end op ≡ false
   pub shorter : length rest < length bytes
 
-operator_only : (op : Op) (bytes rest : List ℕ) → Operator op bytes rest → Reads op bytes rest
-operator_only Nop bytes rest s =
+reads_plain : (op : Op) (code : ℕ) (bytes rest : List ℕ) → bytes ≡ code ∷ rest → operator_at (code ∷ rest) ≡ Some (op, rest) → is_end op ≡ false → Reads op bytes rest
+reads_plain op code bytes rest s read goes_on =
     let lengths = ap (λ (xs : List ℕ). length xs) s in
-    record { read = ap operator_at s; goes_on = refl; shorter = omega arith }
+    record { read = ap operator_at s ∙ read; goes_on = goes_on; shorter = omega arith }
+
+reads_constant : (n : ℕ) (bytes middle rest : List ℕ) → bytes ≡ 0x41 ∷ middle → SignedNumber n middle rest → Reads (ConstI32 n) bytes rest
+reads_constant n bytes middle rest s number =
+    let lengths = ap (λ (xs : List ℕ). length xs) s in
+    record {
+      read = ap operator_at s ∙ ap constant_of (spelt_number Signed 32 middle n rest number);
+      goes_on = refl;
+      shorter = omega (arith, spelt-shorter Signed 32 middle n rest number);
+    }
+
+reads_binary : (op : ℕ) (bytes rest : List ℕ) → IsBuiltBinary op → bytes ≡ op ∷ rest → Reads (Binary op) bytes rest
+reads_binary op bytes rest (inl e) s =
+    let P : ℕ → Type 0 = λ o. bytes ≡ o ∷ rest → Reads (Binary o) bytes rest in
+    subst P (sym e) (λ t. reads_plain (Binary 0x6A) 0x6A bytes rest t refl refl) s
+reads_binary op bytes rest (inr e) s =
+    let P : ℕ → Type 0 = λ o. bytes ≡ o ∷ rest → Reads (Binary o) bytes rest in
+    subst P (sym e) (λ t. reads_plain (Binary 0x6E) 0x6E bytes rest t refl refl) s
+
+operator_only : (op : Op) (bytes rest : List ℕ) → Operator op bytes rest → Reads op bytes rest
+operator_only Unreachable bytes rest s = reads_plain Unreachable 0x00 bytes rest s refl refl
+operator_only Nop bytes rest s = reads_plain Nop 0x01 bytes rest s refl refl
+operator_only Drop bytes rest s = reads_plain Drop 0x1A bytes rest s refl refl
+operator_only (ConstI32 n) bytes rest s = reads_constant n bytes s.0 rest s.1 s.2
+operator_only (Binary op) bytes rest s = reads_binary op bytes rest s.0 s.1
 operator_only op bytes rest s = absurd s
 
 -- the operators up to the closing end
@@ -188,16 +243,30 @@ file_only bytes ops s =
     ap (λ (r : Option (List ℕ)). option_and_then all_of (option_and_then code_at r)) (front_decides.only bytes s.0 s.1)
     ∙ ap (option_and_then all_of) (code_decides.only s.0 ops [] s.2)
 
-runnable : (op : Op) (bytes rest : List ℕ) → Operator op bytes rest → IsRunnable op
-runnable Nop bytes rest s = tt
-runnable op bytes rest s = absurd s
+built : (op : Op) (bytes rest : List ℕ) → Operator op bytes rest → IsBuiltOperator op
+built Unreachable bytes rest s = tt
+built Nop bytes rest s = tt
+built Drop bytes rest s = tt
+built (ConstI32 n) bytes rest s = tt
+built (Binary op) bytes rest s = s.0
+built op bytes rest s = absurd s
 
-operators_runnable : (ops : List Op) (bytes rest : List ℕ) → Operators ops bytes rest → AllByRecursion IsRunnable ops
-operators_runnable [] bytes rest s = tt
-operators_runnable (op ∷ ops) bytes rest s = (runnable op bytes s.0 s.1, operators_runnable ops s.0 rest s.2)
+operators_built : (ops : List Op) (bytes rest : List ℕ) → Operators ops bytes rest → AllByRecursion IsBuiltOperator ops
+operators_built [] bytes rest s = tt
+operators_built (op ∷ ops) bytes rest s = (built op bytes s.0 s.1, operators_built ops s.0 rest s.2)
 
--- the operators of a module that is run so far have a meaning
-pub all_runnable : (bytes : List ℕ) (ops : List Op) → (Front ⨾ Code ops) bytes [] → AllByRecursion IsRunnable ops
-all_runnable bytes ops s =
+-- the operators of a file that is spelt so are built
+pub all_built : (bytes : List ℕ) (ops : List Op) → (Front ⨾ Code ops) bytes [] → AllByRecursion IsBuiltOperator ops
+all_built bytes ops s =
     let body = s.2.2.stands.2.stands.2 in
-    operators_runnable ops _ _ body.1
+    operators_built ops _ _ body.1
+
+-- what the reader answers for a file that is spelt so
+pub file_gave : (bytes : List ℕ) (due : List Op) (result : Result (Vec Op Global) Unread) → file_at bytes ≡ Some due → IfOk result (λ ops. file_at bytes ≡ Some ops.items) → (IsErrOf result unread.NotBuilt → file_at bytes ≡ None) → Gave result due
+file_gave bytes due (Ok ops) read found none = inside ops.items due (sym found ∙ read)
+file_gave bytes due (Err unread.NotBuilt) read found none = let bad = none refl in cc
+file_gave bytes due (Err unread.NoMemory) read found none = tt
+
+-- a call that found no such module gave no operators
+pub not_given : (result : Result (Vec Op Global) Unread) (due : List Op) → result ≡ Err unread.NotBuilt → Gave result due → ⊥
+not_given result due e g = let P : Result (Vec Op Global) Unread → Type 0 = λ r. Gave r due in subst P e g

@@ -1,4 +1,3 @@
-pub mod Balances
 pub mod BuiltModules
 pub mod Clauses
 pub mod CutFiles
@@ -6,4 +5,7 @@ pub mod Decimals
 pub mod Forms
 pub mod Operators
 pub mod Pieces
+pub mod Runs
+pub mod Safety
 pub mod Sections
+pub mod Stacks

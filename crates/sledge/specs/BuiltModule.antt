@@ -1,13 +1,31 @@
 -- The modules that are run so far: one function of no parameters, no result and no locals, exported as `_start`
 -- (WebAssembly Core 1.0, section 5.5, with each of these sections once and in this order).
-use Rattle.std.specs.Prelude.{◌≡◌, ℕ, ◌≤◌, List, [], ◌∷◌, length, codes}
+use Rattle.std.specs.Prelude.{◌≡◌, ◌⊎◌, ℕ, ◌≤◌, List, [], ◌∷◌, length, codes}
 use Rattle.wasm_ops.specs.declared.operators.Op.{Op}
-use Rattle.wasm_ops.specs.declared.operators.Op.TheVariants.{Nop}
-use Rattle.sledge.specs.Grammar.{Form, ◌⨾◌, Bytes, Number, Sized, Section}
+use Rattle.wasm_ops.specs.declared.operators.Op.TheVariants.{Unreachable, Nop, Drop, ConstI32, Binary}
+use Rattle.sledge.specs.Grammar.{Form, ◌⨾◌, Bytes, Number, SignedNumber, Sized, Section}
+use Rattle.sledge.specs.Typing.{IsTyped}
 
--- the bytes of an operator that is built
+-- the binary operators that are built: i32.add and i32.div_u
+abbrev pub IsBuiltBinary : ℕ → Type 0
+IsBuiltBinary op = (op ≡ 0x6A) ⊎ (op ≡ 0x6E)
+
+-- the operators that are built
+abbrev pub IsBuiltOperator : Op → Type 0
+IsBuiltOperator Unreachable = Unit {0}
+IsBuiltOperator Nop = Unit {0}
+IsBuiltOperator Drop = Unit {0}
+IsBuiltOperator (ConstI32 n) = Unit {0}
+IsBuiltOperator (Binary op) = IsBuiltBinary op
+IsBuiltOperator op = ⊥
+
+-- the bytes of an operator that is built (section 5.4)
 abbrev pub Operator : Op → Form
+Operator Unreachable = Bytes (0x00 ∷ [])
 Operator Nop = Bytes (0x01 ∷ [])
+Operator Drop = Bytes (0x1A ∷ [])
+Operator (ConstI32 n) = Bytes (0x41 ∷ []) ⨾ SignedNumber n
+Operator (Binary op) = λ bytes rest. IsBuiltBinary op × (bytes ≡ op ∷ rest)
 Operator op = λ bytes rest. ⊥
 
 -- operators, one behind the other
@@ -47,7 +65,12 @@ Front = Bytes header ⨾ Types ⨾ Functions ⨾ Exports
 abbrev pub module_limit : ℕ
 module_limit = 4194304
 
+-- the whole file is spelt so, with these operators
+abbrev pub IsSpelt : (bytes : List ℕ) → List Op → Type 0
+IsSpelt bytes ops = (Front ⨾ Code ops) bytes []
+
 -- the file is a module that is run so far, and its body has these operators
 pub record IsBuilt (bytes : List ℕ) (ops : List Op) : Type 0 where
   pub short : length bytes ≤ module_limit
-  pub spelt : (Front ⨾ Code ops) bytes []
+  pub spelt : IsSpelt bytes ops
+  pub typed : IsTyped ops

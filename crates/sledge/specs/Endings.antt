@@ -5,7 +5,8 @@ use Rattle.std.specs.Bool.{MatchBool}
 use Rattle.outside.specs.Faults.{Rose}
 use Rattle.outside.specs.Library.{Files}
 use Rattle.wasm_ops.specs.declared.operators.Op.{Op}
-use Rattle.http_front.specs.Reported.{Reported, Replied, OutOfBudget}
+use Rattle.wasm_ops.specs.Traps.{trap_text}
+use Rattle.http_front.specs.Reported.{Reported, Replied, Trapped, OutOfBudget}
 use Rattle.http_front.specs.Reply.{reply_of}
 use Rattle.sledge.specs.BuiltModule.{IsBuilt}
 use Rattle.sledge.specs.CommandLine.{Asked, AsksHelp, AsksVersion, AsksInvoke, InvokeWords, command_of}
@@ -54,6 +55,7 @@ shown text = record { status = status.Ok; text = text; note = [] }
 -- what the reply reports of a verdict; no operator that is built writes a reply, so it is empty
 abbrev pub reported_verdict : Verdict → Reported
 reported_verdict verdict.Replied = Replied []
+reported_verdict (verdict.Trap why) = Trapped (trap_text why)
 reported_verdict verdict.Spent = OutOfBudget
 
 -- the reply to a kept GET, and the units that the run cost

@@ -1,20 +1,45 @@
 -- How a straight body runs within a budget of units, and what each operator costs
 -- (WebAssembly Core 1.0, section 4.4; prices are this project's own).
-use Rattle.std.specs.Prelude.{ℕ, ◌-◌, nat_lt, if◌then◌else◌, List, [], ◌∷◌, sum, Option, None, Some}
+use Rattle.std.specs.Prelude.{ℕ, ◌-◌, nat_lt, if◌then◌else◌, List, [], ◌∷◌, sum, Option, None, Some, Result, Ok, Err}
+use Rattle.wasm_ops.specs.Arithmetic.{binary_result}
+use Rattle.wasm_ops.specs.Operations.{operand_of, operation_of, result_of, takes_one}
 use Rattle.wasm_ops.specs.declared.operators.Op.{Op}
-use Rattle.wasm_ops.specs.declared.operators.Op.TheVariants.{Nop}
+use Rattle.wasm_ops.specs.declared.operators.Op.TheVariants.{Unreachable, Nop, Drop, ConstI32, Binary}
+use Rattle.wasm_ops.specs.declared.traps.Trap.{Trap}
+use Rattle.wasm_ops.specs.declared.traps.Trap.TheVariants as trap
+use Rattle.wasm_ops.specs.declared.types.ValType.{ValType}
+use Rattle.wasm_ops.specs.declared.types.ValType.TheVariants.{I32, I64}
 use Rattle.sledge.specs.declared.machine.Verdict.TheVariants as verdict
 use Rattle.sledge.specs.declared.machine.Execution.{Execution}
 
--- how a run ends: it fell off the end, its budget was spent, or an operator has no meaning where it stands
+-- an operand: a number with its type
+pub data Value : Type 0 where
+  Int32 : (number : ℕ) → Value
+  Int64 : (number : ℕ) → Value
+
+-- the number of a value of this type
+abbrev pub number_of : ValType → Value → Option ℕ
+number_of I32 (Int32 n) = Some n
+number_of I64 (Int64 n) = Some n
+number_of I32 (Int64 n) = None
+number_of I64 (Int32 n) = None
+
+-- the value of this type with this number
+abbrev pub value_of : ValType → ℕ → Value
+value_of I32 n = Int32 n
+value_of I64 n = Int64 n
+
+-- how a run ends: it fell off the end, it trapped, its budget was spent, or an operator does not find its operands
 pub data Outcome : Type 0 where
   Fell : Outcome
+  Trapped : (why : Trap) → Outcome
   Spent : Outcome
   Stuck : Outcome
 
--- a run: how it ended, what is left of the budget, and what was paid, in order
+-- a run: how it ended, the operands there, what is left of the budget, and what was paid, in order
 pub record Run : Type 0 where
   pub outcome : Outcome
+  pub operands : List Value
   pub left : ℕ
   pub prices : List ℕ
 
@@ -24,44 +49,68 @@ price op = 1
 
 -- what an operator does once it is paid
 pub data Effect : Type 0 where
-  Goes : Effect
+  Goes : (operands : List Value) → Effect
+  Traps : (why : Trap) → Effect
   Breaks : Effect
 
-abbrev pub effect : Op → Effect
-effect Nop = Goes
-effect op = Breaks
+-- a result is laid on the operands
+abbrev pub computed : ValType → Result ℕ Trap → (under : List Value) → Effect
+computed result (Ok n) under = Goes (value_of result n ∷ under)
+computed result (Err why) under = Traps why
+
+abbrev pub with_numbers : (op : ℕ) → (a b : Option ℕ) → (under : List Value) → Effect
+with_numbers op (Some a) (Some b) under = computed (result_of (operation_of op)) (binary_result op a b) under
+with_numbers op (Some a) None under = Breaks
+with_numbers op None b under = Breaks
+
+-- an operator of two operands takes the last two, which are of its type
+abbrev pub binary_effect : (op : ℕ) → List Value → Effect
+binary_effect op (b ∷ a ∷ under) =
+    if takes_one (operation_of op) then Breaks
+    else with_numbers op (number_of (operand_of (operation_of op)) a) (number_of (operand_of (operation_of op)) b) under
+binary_effect op _ = Breaks
+
+abbrev pub drop_effect : List Value → Effect
+drop_effect [] = Breaks
+drop_effect (value ∷ under) = Goes under
+
+-- what each operator does to the operands, of which the last stands first
+abbrev pub effect : Op → List Value → Effect
+effect Unreachable operands = Traps trap.Unreachable
+effect Nop operands = Goes operands
+effect Drop operands = drop_effect operands
+effect (ConstI32 n) operands = Goes (Int32 n ∷ operands)
+effect (Binary op) operands = binary_effect op operands
+effect op operands = Breaks
 
 -- a run that pays this before all else
 abbrev pub paid : ℕ → Run → Run
 paid item r = record r { prices = item ∷ r.prices }
 
 -- a run that ends here and has paid nothing
-abbrev pub ends : Outcome → (left : ℕ) → Run
-ends outcome left = record { outcome = outcome; left = left; prices = [] }
+abbrev pub ends : Outcome → (operands : List Value) (left : ℕ) → Run
+ends outcome operands left = record { outcome = outcome; operands = operands; left = left; prices = [] }
 
--- the operator is paid, acts, and the rest runs
-abbrev pub act : Effect → (item left : ℕ) → (rest : Run) → Run
-act Goes item left rest = paid item rest
-act Breaks item left rest = ends Stuck left
+-- the operator is paid and acts, and where it goes on, the rest runs with what is left; a trap is paid too
+abbrev pub act : Effect → (item : ℕ) (operands : List Value) (left : ℕ) → (rest : List Value → ℕ → Run) → Run
+act (Goes operands') item operands left rest = paid item (rest operands' (left - item))
+act (Traps why) item operands left rest = paid item (ends (Trapped why) operands (left - item))
+act Breaks item operands left rest = ends Stuck operands left
 
 -- an operator that costs more than is left ends the run without any effect, and counts nothing
-abbrev pub run : List Op → (left : ℕ) → Run
-run [] left = ends Fell left
-run (op ∷ ops) left =
-    if nat_lt left (price op) then paid 0 (ends Spent left)
-    else act (effect op) (price op) left (run ops (left - price op))
-
--- an operator that has a meaning here
-abbrev pub IsRunnable : Op → Type 0
-IsRunnable Nop = Unit {0}
-IsRunnable op = ⊥
+abbrev pub run : List Op → (operands : List Value) (left : ℕ) → Run
+run [] operands left = ends Fell operands left
+run (op ∷ ops) operands left =
+    if nat_lt left (price op) then paid 0 (ends Spent operands left)
+    else act (effect op operands) (price op) operands left (run ops)
 
 -- what became of the request, with the units that it cost
 abbrev pub concluded : Outcome → (units : ℕ) → Option Execution
 concluded Fell units = Some (record { verdict = verdict.Replied; units = units })
+concluded (Trapped why) units = Some (record { verdict = verdict.Trap why; units = units })
 concluded Spent units = Some (record { verdict = verdict.Spent; units = units })
 concluded Stuck units = None
 
 -- the verdict on the operators within the budget, or none where they get stuck
 abbrev pub execution_of : List Op → (budget : ℕ) → Option Execution
-execution_of ops budget = concluded (run ops budget).outcome (sum (run ops budget).prices)
+execution_of ops budget = concluded (run ops [] budget).outcome (sum (run ops [] budget).prices)

@@ -1,7 +1,7 @@
 -- Forms of bytes, one behind the other: what a list of bytes begins with, and the rest that follows it.
 use Rattle.std.specs.Prelude.{◌≡◌, ℕ, ◌+◌, List, [], ◌∷◌, ◌++◌, length}
 use Rattle.wasm_ops.specs.Numbers.{SpellsNumber}
-use Rattle.wasm_ops.specs.declared.numbers.Sign.TheVariants.{Unsigned}
+use Rattle.wasm_ops.specs.declared.numbers.Sign.TheVariants.{Unsigned, Signed}
 
 -- a form says of two lists that the first begins in this form, and that the second is the rest
 abbrev pub Form : Type 1
@@ -19,6 +19,10 @@ Bytes front bytes rest = bytes ≡ front ++ rest
 -- this number, in any spelling of at most five bytes
 abbrev pub Number : ℕ → Form
 Number n bytes rest = SpellsNumber Unsigned 32 bytes n rest
+
+-- this number of 32 bits with a sign, in two's complement, in any spelling of at most five bytes
+abbrev pub SignedNumber : ℕ → Form
+SignedNumber n bytes rest = SpellsNumber Signed 32 bytes n rest
 
 -- the size of a content, and the content
 pub record Sized (content : Form) (bytes rest : List ℕ) : Type 0 where

@@ -4,6 +4,9 @@ pub mod Delivery
 pub mod Endings
 pub mod Execution
 pub mod Grammar
+pub mod Heights
+pub mod Machine
 pub mod Promises
 pub mod Reading
 pub mod Statuses
+pub mod Typing

@@ -3,10 +3,10 @@ use Rattle.std.specs.Prelude.{◌≡◌, ◌≢◌, ℕ, ◌+◌, zero, suc, ◌
 use Rattle.std.specs.Option.{option_map}
 use Rattle.wasm_ops.specs.Input.{Input, end_of}
 use Rattle.wasm_ops.specs.Numbers.{number_at}
-use Rattle.wasm_ops.specs.declared.numbers.Sign.TheVariants.{Unsigned}
+use Rattle.wasm_ops.specs.declared.numbers.Sign.TheVariants.{Unsigned, Signed}
 use Rattle.wasm_ops.specs.declared.numbers.LebFault.{LebFault}
 use Rattle.wasm_ops.specs.declared.operators.Op.{Op}
-use Rattle.wasm_ops.specs.declared.operators.Op.TheVariants.{Nop, End}
+use Rattle.wasm_ops.specs.declared.operators.Op.TheVariants.{Unreachable, Nop, End, Drop, ConstI32, Binary}
 use Rattle.std.specs.declared.alloc.Global.{Global}
 use Rattle.sledge.specs.BuiltModule.{header}
 use Rattle.sledge.specs.declared.built_module.Unread.{Unread}
@@ -77,9 +77,21 @@ exports_at = section_at 7 export_content_at
 abbrev pub front_at : Reader
 front_at = bytes_at header ▹ types_at ▹ functions_at ▹ exports_at
 
+-- a signed number of 32 bits, as what it is for an operator
+abbrev pub constant_of : Result (ℕ × List ℕ) LebFault → Option (Op × List ℕ)
+constant_of (Ok read) = Some (ConstI32 read.0, read.1)
+constant_of (Err fault) = None
+
 -- an operator and the rest behind it; End closes the body
 abbrev pub operator_of : (byte : ℕ) (bytes : List ℕ) → Option (Op × List ℕ)
-operator_of byte bytes = if byte == 0x01 then Some (Nop, bytes) else (if byte == 0x0B then Some (End, bytes) else None)
+operator_of byte bytes =
+    if byte == 0x00 then Some (Unreachable, bytes) else (
+    if byte == 0x01 then Some (Nop, bytes) else (
+    if byte == 0x0B then Some (End, bytes) else (
+    if byte == 0x1A then Some (Drop, bytes) else (
+    if byte == 0x41 then constant_of (number_at Signed 32 bytes) else (
+    if byte == 0x6A then Some (Binary 0x6A, bytes) else (
+    if byte == 0x6E then Some (Binary 0x6E, bytes) else None))))))
 
 abbrev pub operator_at : List ℕ → Option (Op × List ℕ)
 operator_at [] = None
@@ -158,3 +170,9 @@ abbrev pub Reads : Result (Vec Op Global) Unread → (before after : Input) → 
 Reads (Ok ops) before after read = (read ≡ Some (ops.items, after.left)) × (end_of after ≡ end_of before)
 Reads (Err unread.NotBuilt) before after read = read ≡ None
 Reads (Err unread.NoMemory) before after read = Unit {0}
+
+-- a call that answers operators gave these; only want of memory has no cause
+abbrev pub Gave : Result (Vec Op Global) Unread → List Op → Type 0
+Gave (Ok ops) due = ops.items ≡ due
+Gave (Err unread.NotBuilt) due = ⊥
+Gave (Err unread.NoMemory) due = Unit {0}

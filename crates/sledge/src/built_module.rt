@@ -1,18 +1,19 @@
 //! The reader of the modules that are run so far.
 
-ghost use Rattle.std.specs.Prelude.{◌≡◌, ◌+◌, ◌≤◌, ◌<◌, length, map, Some, Ok, Err, IfOk, OnSome, IsErrOf};
+ghost use Rattle.std.specs.Prelude.{◌≡◌, List, ◌+◌, ◌≤◌, ◌<◌, length, map, Some, Ok, Err, IfOk, OnSome, IsErrOf};
 ghost use Rattle.std.specs.List.{AllByRecursion};
 ghost use Rattle.wasm_ops.specs.Input.{end_of};
+ghost use Rattle.wasm_ops.specs.declared.operators.Op.{Op as OpValue};
 ghost use Rattle.wasm_ops.specs.Numbers.{number_at};
 ghost use Rattle.wasm_ops.specs.declared.numbers.Sign.TheVariants.{Unsigned};
-ghost use Rattle.sledge.specs.BuiltModule.{IsBuilt, module_limit};
+ghost use Rattle.sledge.specs.BuiltModule.{IsBuilt, IsBuiltOperator, IsSpelt, module_limit};
 ghost use Rattle.sledge.specs.declared.built_module.Unread.TheVariants.{NoMemory};
 ghost use Rattle.sledge.specs.Endings.{IsNotBuilt};
-ghost use Rattle.sledge.specs.Execution.{IsRunnable};
-ghost use Rattle.sledge.specs.Reading.{Goes, Gives, Ends, byte_is, bytes_at, number_is, OpensContent, exactly, type_content_at, types_at, function_content_at, functions_at, export_content_at, exports_at, front_at, operator_at, is_end, operators_at, Reads, body_at, sized_operators_at, code_content_at, code_at, file_at};
+ghost use Rattle.sledge.specs.Reading.{Goes, Gives, Ends, byte_is, bytes_at, number_is, OpensContent, exactly, type_content_at, types_at, function_content_at, functions_at, export_content_at, exports_at, front_at, operator_at, is_end, operators_at, Reads, body_at, sized_operators_at, code_content_at, code_at, file_at, Gave};
 
+use crate::typing::is_typed;
 use std::alloc::{AllocFailed, Global};
-use wasm_ops::{Cursor, Op};
+use wasm_ops::{Cursor, IntOp, Op};
 
 /// The most bytes of a module's file: 4 MiB.
 pub const MODULE_LIMIT: u64 = 4 << 20;
@@ -157,8 +158,13 @@ fn operator(cursor: &mut Cursor<'_>) -> Option<Op>
     ensures shorter { OnSome result (length cursor.new.left < length cursor.old.left) }
 {
     match cursor.byte().ok()? {
+        0x00 => Some(Op::Unreachable),
         0x01 => Some(Op::Nop),
         0x0B => Some(Op::End),
+        0x1A => Some(Op::Drop),
+        0x41 => Some(Op::ConstI32(cursor.s32_leb().ok()?)),
+        0x6A => Some(Op::Binary(IntOp::from_byte(0x6A)?)),
+        0x6E => Some(Op::Binary(IntOp::from_byte(0x6E)?)),
         _ => None,
     }
 }
@@ -220,7 +226,7 @@ fn code(alloc: Global, cursor: &mut Cursor<'_>) -> Result<Vec<Op>, Unread>
     Ok(ops)
 }
 
-/// The operators of a file of at most 4 MiB.
+/// The operators of a file of at most 4 MiB, not yet typed.
 fn file(alloc: Global, bytes: &[u8]) -> Result<Vec<Op>, Unread>
     requires { length bytes.now ≤ module_limit }
     ensures ok { IfOk result (λ ops. file_at bytes.now ≡ Some ops.items) }
@@ -235,14 +241,28 @@ fn file(alloc: Global, bytes: &[u8]) -> Result<Vec<Op>, Unread>
     Ok(ops)
 }
 
+/// The operators of a file of at most 4 MiB that has the form of those that are run so far.
+fn spelt(alloc: Global, bytes: &[u8]) -> Result<Vec<Op>, Unread>
+    requires { length bytes.now ≤ module_limit }
+    ensures found { IfOk result (λ ops. IsSpelt bytes.now ops.items) }
+    ensures built { IfOk result (λ ops. AllByRecursion IsBuiltOperator ops.items) }
+    ensures only { (ops : List OpValue) → IsSpelt bytes.now ops → Gave result ops }
+{
+    file(alloc, bytes)
+}
+
 /// The operators of the module in the file, where it is one of those that are run so far.
 pub fn read_built(alloc: Global, bytes: &[u8]) -> Result<Vec<Op>, Unread>
     ensures found { IfOk result (λ ops. IsBuilt bytes.now ops.items) }
-    ensures runnable { IfOk result (λ ops. AllByRecursion IsRunnable ops.items) }
+    ensures built { IfOk result (λ ops. AllByRecursion IsBuiltOperator ops.items) }
     ensures not_built { IsErrOf result Unread.NotBuilt → IsNotBuilt bytes.now }
 {
     if bytes.len() as u64 > MODULE_LIMIT {
         return Err(Unread::NotBuilt);
     }
-    file(alloc, bytes)
+    let ops = spelt(alloc, bytes)?;
+    if !is_typed(ops.as_slice()) {
+        return Err(Unread::NotBuilt);
+    }
+    Ok(ops)
 }

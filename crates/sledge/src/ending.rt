@@ -133,6 +133,7 @@ fn outcome_of(verdict: Verdict) -> Outcome<'static>
 {
     match verdict {
         Verdict::Replied => Outcome::Bytes(&[]),
+        Verdict::Trap(why) => Outcome::Trap(why.text()),
         Verdict::Spent => Outcome::Spent,
     }
 }

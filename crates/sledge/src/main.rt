@@ -5,6 +5,7 @@ mod built_module;
 mod command;
 mod delivery;
 mod ending;
+pub mod laws;
 mod machine;
 mod planning;
 mod status;
@@ -12,6 +13,7 @@ mod status;
 mod tests;
 mod texts;
 mod top;
+mod typing;
 
 use outside::{FileLibrary, OpenGate, StdNotes, StdSink};
 use std::env;

@@ -2,10 +2,10 @@
 
 ghost use Rattle.std.specs.Prelude.{◌≡◌, ◌≤◌, map, IfOk, IfSome, IfNone, string_bytes};
 ghost use Rattle.std.specs.List.{AllByRecursion};
-ghost use Rattle.sledge.specs.BuiltModule.{IsBuilt};
+ghost use Rattle.sledge.specs.BuiltModule.{IsBuilt, IsBuiltOperator};
 ghost use Rattle.sledge.specs.CommandLine.{command_of, invoke_view};
 ghost use Rattle.sledge.specs.Endings.{EndsAs, IsEnding, EndsInvoke, EndsFromBody, EndsOnBody, IsNotBuilt, names_of, read_order};
-ghost use Rattle.sledge.specs.Execution.{IsRunnable};
+ghost use Rattle.sledge.specs.Typing.{IsTyped};
 
 use crate::built_module::{MODULE_LIMIT, Unread, read_built};
 use crate::command::{Command, Invoke};
@@ -70,7 +70,8 @@ fn from_body<L: Library>(
     invoke: Invoke<'_>,
     lib: &mut L,
 ) -> Result<Ending, AllocError>
-    requires { AllByRecursion IsRunnable ops.now }
+    requires built { AllByRecursion IsBuiltOperator ops.now }
+    requires typed { IsTyped ops.now }
     ensures ending { IfOk result (EndsAs (L.held lib.old) (λ reads. EndsFromBody ops.now (invoke_view invoke.entry) (reads 1 (invoke_view invoke.entry).body_name))
         (names_of (invoke_view invoke.entry)) (L.fault_count lib.old) (L.fault_count lib.new)) }
     ensures same { L.held lib.new ≡ L.held lib.old }
@@ -86,11 +87,12 @@ fn from_body<L: Library>(
 
 /// The ending once both files are read.
 fn from_run(alloc: Global, ops: &[Op], body: &[u8], budget: u64) -> Result<Ending, AllocError>
-    requires { AllByRecursion IsRunnable ops.now }
+    requires built { AllByRecursion IsBuiltOperator ops.now }
+    requires typed { IsTyped ops.now }
     ensures { IfOk result (EndsOnBody ops.now budget body.now) }
 {
     if body.len() as u64 > BODY_LIMIT {
         return Ending::recording_fault(alloc, TOO_LONG);
     }
-    Ending::answered(alloc, execute(ops, budget))
+    Ending::answered(alloc, execute(alloc, ops, budget)?)
 }

@@ -4,8 +4,8 @@ mod fixture;
 mod refusals;
 mod writing;
 
-use crate::status::Status;
-use fixture::{Outside, module};
+use crate::texts::HELP;
+use fixture::{Left, Outside, module};
 use std::test::Fail;
 
 const OK: &str =
@@ -14,22 +14,46 @@ const OK: &str =
 const SPENT: &str =
     "HTTP/1.1 504 Gateway Timeout\r\nContent-Type: text/plain\r\nContent-Length: 12\r\n\r\nbudget spent";
 
+const UNREACHABLE: &str =
+    "HTTP/1.1 500 Internal Server Error\r\nContent-Type: text/plain\r\nContent-Length: 17\r\n\r\ntrap: unreachable";
+
+const BY_ZERO: &str =
+    "HTTP/1.1 500 Internal Server Error\r\nContent-Type: text/plain\r\nContent-Length: 28\r\n\r\ntrap: integer divide by zero";
+
 #[test]
 fn replies_to_the_verdict_of_the_operators(rt: HostRuntime) -> Result<(), Fail> {
-    let table: [(&[u8], &str, &str, &str); 5] = [
+    let by_zero = [0x41, 7, 0x41, 0, 0x6E, 0x1A];
+    let table: [(&[u8], &str, &str, &str); 14] = [
         (&[], "10", OK, "units 0\n"),
         (&[1, 1, 1], "10", OK, "units 3\n"),
         (&[1, 1, 1], "3", OK, "units 3\n"),
         (&[1, 1, 1], "2", SPENT, "units 2\n"),
         (&[1, 1, 1], "0", SPENT, "units 0\n"),
+        (&[0], "10", UNREACHABLE, "units 1\n"),
+        (&[0], "0", SPENT, "units 0\n"),
+        (&by_zero, "10", BY_ZERO, "units 3\n"),
+        (&by_zero, "3", BY_ZERO, "units 3\n"),
+        (&by_zero, "2", SPENT, "units 2\n"),
+        // 7 / 2 and 7 / -1 do not trap.
+        (&[0x41, 7, 0x41, 2, 0x6E, 0x1A], "10", OK, "units 4\n"),
+        (&[0x41, 7, 0x41, 0x7F, 0x6E, 0x1A], "10", OK, "units 4\n"),
+        // 5 / (-1 + 1): the sum wraps to 0. The -1 is spelt with all five bytes.
+        (
+            &[
+                0x41, 5, 0x41, 0xFF, 0xFF, 0xFF, 0xFF, 0x7F, 0x41, 0x81, 0x80, 0x00, 0x6A, 0x6E,
+                0x1A,
+            ],
+            "10",
+            BY_ZERO,
+            "units 5\n",
+        ),
+        // Behind unreachable a missing operand is of any type.
+        (&[0, 0x1A, 0x6A, 0x1A], "10", UNREACHABLE, "units 1\n"),
     ];
     for (ops, budget, reply, note) in table {
         let mut outside = Outside::new(rt.alloc(), module(rt.alloc(), ops)?.as_slice(), b"")?;
         let words = ["invoke", "m", "b", budget];
-        let status = outside.run(&rt, rt.alloc(), &words)?;
-        assert_eq!(rt; status, Status::Ok, "budget {budget}");
-        assert_eq!(rt; outside.out.bytes(), reply.as_bytes(), "budget {budget}");
-        assert_eq!(rt; outside.notes.bytes(), note.as_bytes(), "budget {budget}");
+        outside.expect(&rt, rt.alloc(), &words, &Left::answered(reply, note))?;
     }
     Ok(())
 }
@@ -37,10 +61,14 @@ fn replies_to_the_verdict_of_the_operators(rt: HostRuntime) -> Result<(), Fail> 
 #[test]
 fn shows_its_texts(rt: HostRuntime) -> Result<(), Fail> {
     let mut outside = Outside::new(rt.alloc(), b"", b"")?;
-    assert_eq!(rt; outside.run(&rt, rt.alloc(), &["--version"])?, Status::Ok);
-    assert_eq!(rt; outside.out.bytes(), b"Cavundel 0.1.0\n".as_slice());
-    assert_eq!(rt; outside.run(&rt, rt.alloc(), &["--help"])?, Status::Ok);
-    assert!(rt; outside.out.bytes().starts_with(b"Cavundel 0.1.0\nusage:\n"));
-    assert_eq!(rt; outside.notes.bytes(), b"".as_slice());
+    outside.expect(
+        &rt,
+        rt.alloc(),
+        &["--version"],
+        &Left::answered("Cavundel 0.1.0\n", ""),
+    )?;
+    let mut outside = Outside::new(rt.alloc(), b"", b"")?;
+    outside.expect(&rt, rt.alloc(), &["--help"], &Left::answered(HELP, ""))?;
+    assert!(rt; HELP.starts_with("usage:\n"));
     Ok(())
 }

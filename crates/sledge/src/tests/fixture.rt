@@ -1,11 +1,10 @@
 //! A library of two files and two outputs, all in memory.
 
-ghost use Rattle.std.specs.Prelude.{◌≤◌, length};
-
 use crate::status::Status;
 use crate::top::run;
 use outside::{Cut, Library, OpenGate, Page, Shelf, Sink, Text};
 use std::alloc::{AllocError, Global};
+use std::process::Abort;
 use std::thread::Threads;
 
 /// The room of each output.
@@ -28,18 +27,17 @@ impl Outside {
         })
     }
 
-    /// Runs the words.
-    pub fn run<R: Threads + Sync>(
+    /// Runs the words, and asserts the status, what each output has taken by then, and the counts
+    /// of faults of the library, the output and the notes.
+    pub fn expect<R: Threads + Sync + Abort>(
         &mut self,
         rt: &R,
         alloc: Global,
         words: &[&str],
-    ) -> Result<Status, AllocError> {
-        let mut owned = Vec::new(alloc);
-        for word in words {
-            owned.push(String::from_str(alloc, word)?)?;
-        }
-        Ok(run(
+        left: &Left<'_>,
+    ) -> Result<(), AllocError> {
+        let owned = owned(alloc, words)?;
+        let status = run(
             rt,
             alloc,
             owned.as_slice(),
@@ -47,13 +45,53 @@ impl Outside {
             &mut self.out,
             &mut self.notes,
             &OpenGate,
-        ))
+        );
+        assert_eq!(rt; status, left.status, "{words:?}");
+        assert_eq!(rt; self.out.bytes(), left.out.as_bytes(), "{words:?}");
+        assert_eq!(rt; self.notes.bytes(), left.notes.as_bytes(), "{words:?}");
+        let faults = (self.lib.faults(), self.out.faults(), self.notes.faults());
+        assert_eq!(rt; faults, left.faults, "{words:?}");
+        Ok(())
+    }
+}
+
+/// What a command leaves.
+#[derive(Clone, Copy)]
+pub struct Left<'a> {
+    pub status: Status,
+    pub out: &'a str,
+    pub notes: &'a str,
+    pub faults: (u64, u64, u64),
+}
+
+impl<'a> Left<'a> {
+    /// A status and a note, with nothing on the output and no fault.
+    pub fn refused(status: Status, notes: &'a str) -> Left<'a> {
+        Left {
+            status,
+            out: "",
+            notes,
+            faults: (0, 0, 0),
+        }
     }
 
-    /// The counts of faults of the library, the output and the notes.
-    pub fn faults(&self) -> (u64, u64, u64) {
-        (self.lib.faults(), self.out.faults(), self.notes.faults())
+    /// A reply and its units.
+    pub fn answered(out: &'a str, notes: &'a str) -> Left<'a> {
+        Left {
+            status: Status::Ok,
+            out,
+            notes,
+            faults: (0, 0, 0),
+        }
     }
+}
+
+fn owned(alloc: Global, words: &[&str]) -> Result<Vec<String>, AllocError> {
+    let mut owned = Vec::new(alloc);
+    for word in words {
+        owned.push(String::from_str(alloc, word)?)?;
+    }
+    Ok(owned)
 }
 
 /// The files `m` and `b`, where the reads of these numbers fail.
@@ -80,15 +118,13 @@ pub fn failing_page(alloc: Global, call: u64, passes: u64) -> Result<Page, Alloc
     Page::new(alloc, ROOM, vec![in alloc; Cut { call, passes }]?)
 }
 
-/// The module whose one function has these operators, each number in its shortest spelling.
-pub fn module(alloc: Global, ops: &[u8]) -> Result<Vec<u8>, AllocError>
-    requires { length ops.now ≤ 100 }
-{
+/// The module whose one function has these operators, at most 100 bytes of them, each number in its shortest spelling.
+pub fn module(alloc: Global, ops: &[u8]) -> Result<Vec<u8>, AllocError> {
     let mut bytes = Vec::from_slice(
         alloc,
         b"\0asm\x01\0\0\0\x01\x04\x01\x60\0\0\x03\x02\x01\0\x07\x0A\x01\x06_start\0\0\x0A",
     )?;
-    let body = ops.len() as u8 + 2;
+    let body = ops.len().min(100) as u8 + 2;
     bytes.extend_from_slice(&[body + 2, 1, body, 0])?;
     bytes.extend_from_slice(ops)?;
     bytes.push(0x0B)?;

@@ -1,19 +1,14 @@
-use Rattle.std.proofs.Common.{arith}
-use Rattle.std.proofs.lemmas.Result.{IfOk-weaker}
-use Rattle.sledge.proofs.BuiltModules.{file_found, file_only, all_runnable}
+use Rattle.std.proofs.Common.{subst, sym, ◌∙◌, rules}
+use Rattle.sledge.proofs.BuiltModules.{not_given}
+use Rattle.sledge.specs.Typing.{IsTyped}
 use Rattle.sledge.proofs.built_module.read_built.Goals as goal
 
-pub returns-clause-found : goal.returns-clause-found
-returns-clause-found c =
-    IfOk-weaker c.file.result _ _ (λ ops p. record { short = omega arith; spelt = file_found c.args.bytes.now ops.items p }) c.file.ensures.ok
+pub returns-in_err-ops-clause-not_built : goal.returns-in_err-ops-clause-not_built
+returns-in_err-ops-clause-not_built c = λ e ops b. not_given c.spelt.result ops (search rules) (c.spelt.ensures.only ops b.spelt)
 
-pub returns-clause-runnable : goal.returns-clause-runnable
-returns-clause-runnable c =
-    IfOk-weaker c.file.result _ _ (λ ops p. all_runnable c.args.bytes.now ops.items (file_found c.args.bytes.now ops.items p)) c.file.ensures.ok
-
-pub returns-clause-not_built : goal.returns-clause-not_built
-returns-clause-not_built c =
+pub returns-then-not-is_typed-clause-not_built : goal.returns-then-not-is_typed-clause-not_built
+returns-then-not-is_typed-clause-not_built c =
     λ e ops b.
-    let none = c.file.ensures.not_built e in
-    let some = file_only c.args.bytes.now ops b.spelt in
-    cc
+    let same = c.in_ok-ops.ensures.only ops b.spelt in
+    let here : IsTyped c.as_slice.result.now = subst IsTyped (sym (c.as_slice.ensures.value ∙ same)) b.typed in
+    let bad = c.if-not-is_typed.ensures.1 here in cc

@@ -2,6 +2,7 @@ pub mod BuiltModules
 pub mod Clauses
 pub mod CutFiles
 pub mod Decimals
+pub mod Exactly
 pub mod Forms
 pub mod Operators
 pub mod Pieces

@@ -1,5 +1,5 @@
 -- What each status of `run` says, clause by clause.
-use Rattle.std.specs.Prelude.{◌≡◌, ℕ, ◌≤◌, ◌++◌, List, [], length, codes, decimal, false, true, Option, Some}
+use Rattle.std.specs.Prelude.{◌≡◌, ℕ, ◌≤◌, ◌++◌, ◌⊎◌, List, [], length, codes, decimal, false, true, Option, Some}
 use Rattle.outside.specs.Library.{Files}
 use Rattle.outside.specs.Sink.{Appends}
 use Rattle.wasm_ops.specs.declared.operators.Op.{Op}
@@ -10,6 +10,7 @@ use Rattle.sledge.specs.Endings.{Ended, IsEnding, body_limit, line, reads_of, re
 use Rattle.sledge.specs.Execution.{execution_of}
 use Rattle.sledge.specs.declared.machine.Execution.{Execution}
 use Rattle.sledge.specs.declared.status.Status.{Status}
+use Rattle.sledge.specs.declared.status.Status.TheVariants as status
 use Rattle.sledge.specs.declared.texts.TheConstants.{OCTET_STREAM}
 
 -- an `invoke` over these files was answered: the module is of a kind that is run so far, the body is not too long,
@@ -36,3 +37,12 @@ pub record Refused (out out' notes notes' : Option (List ℕ)) : Type 0 where
   pub out_took : Appends out out' []
   pub words : List ℕ
   pub notes_took : Appends notes notes' (line words)
+
+-- the status is this one, unless there was no memory, or a write or a read failed and was counted
+abbrev pub Yields : (due result : Status) → (read wrote : Type 0) → Type 0
+Yields due result read wrote =
+    (result ≡ due) ⊎ (result ≡ status.NoMemory) ⊎ ((result ≡ status.WriteFault) × wrote) ⊎ ((result ≡ status.ReadFault) × read)
+
+-- the files of an `invoke` are held: the module is this one, and the body too
+abbrev pub HoldsBoth : InvokeWords → Files → (file body : List ℕ) → Type 0
+HoldsBoth words files file body = (files words.module_name ≡ Some file) × (files words.body_name ≡ Some body)

@@ -1,11 +1,14 @@
 //! The top call: a whole command, from its words to what is written.
 
-ghost use Rattle.std.specs.Prelude.{◌≡◌, ◌≢◌, ◌≤◌, ◌⊎◌, map, string_bytes, None, Some, IfSome, IsSomeAnd};
+ghost use Rattle.std.specs.Prelude.{◌≡◌, ◌≢◌, ℕ, ◌<◌, ◌≤◌, List, length, ◌⊎◌, map, string_bytes, None, Some, IfSome, IsSomeAnd};
 ghost use Rattle.outside.specs.Faults.{Rose};
 ghost use Rattle.sledge.specs.CommandLine.{AsksInvoke, InvokeWords, command_of};
-ghost use Rattle.sledge.specs.Endings.{Ended, EndsAs, IsEnding, out_of_memory, read_order};
+ghost use Rattle.sledge.specs.Endings.{Ended, EndsAs, IsEnding, IsNotBuilt, body_limit, out_of_memory, read_order};
 ghost use Rattle.sledge.specs.Delivery.{Leaves};
-ghost use Rattle.sledge.specs.Promises.{AnswersInvoke, EndsWith, Refused};
+ghost use Rattle.sledge.specs.BuiltModule.{IsBuilt};
+ghost use Rattle.sledge.specs.Promises.{AnswersInvoke, EndsWith, HoldsBoth, Refused, Yields};
+ghost use Rattle.sledge.specs.declared.status.Status.{Status as StatusValue};
+ghost use Rattle.wasm_ops.specs.declared.operators.Op.{Op as OpValue};
 
 use crate::delivery::deliver;
 use crate::planning::plan;
@@ -53,6 +56,28 @@ pub fn run<R: Threads + Sync, L: Library, S: Sink, N: Sink, G: Gate>(
         ⊎ Rose (N.fault_count notes.old) (N.fault_count notes.new) }
     ensures refused { result ≢ Status.Ok → result ≢ Status.WriteFault
         → Refused (S.written out.old) (S.written out.new) (N.written notes.old) (N.written notes.new) }
+
+    // With a library that tells its files: no status but by the ending, and the ending's status without fail.
+    ensures caused { result ≢ Status.WriteFault → result ≢ Status.NoMemory
+        → ((result ≡ Status.ReadFault) × Rose (L.fault_count lib.old) (L.fault_count lib.new))
+        ⊎ IfSome (L.held lib.old) (λ files. EndsWith (map string_bytes words.now) files result) }
+    ensures exactly { IfSome (L.held lib.old) (λ files. (due : StatusValue) → EndsWith (map string_bytes words.now) files due
+        → Yields due result (Rose (L.fault_count lib.old) (L.fault_count lib.new))
+        (Rose (S.fault_count out.old) (S.fault_count out.new) ⊎ Rose (N.fault_count notes.old) (N.fault_count notes.new))) }
+
+    // So a module of no kind that is run so far, a body that is too long, and files that are accepted.
+    ensures not_built { (i : InvokeWords) (file : List ℕ) → command_of (map string_bytes words.now) ≡ Some (AsksInvoke i) → IsNotBuilt file
+        → IfSome (L.held lib.old) (λ files. files i.module_name ≡ Some file
+        → Yields (Status.ModuleFault 0 90 0) result (Rose (L.fault_count lib.old) (L.fault_count lib.new))
+        (Rose (S.fault_count out.old) (S.fault_count out.new) ⊎ Rose (N.fault_count notes.old) (N.fault_count notes.new))) }
+    ensures body_too_long { (i : InvokeWords) (file body : List ℕ) (ops : List OpValue) → command_of (map string_bytes words.now) ≡ Some (AsksInvoke i)
+        → IsBuilt file ops → body_limit < length body → IfSome (L.held lib.old) (λ files. HoldsBoth i files file body
+        → Yields (Status.RecordingFault 76) result (Rose (L.fault_count lib.old) (L.fault_count lib.new))
+        (Rose (S.fault_count out.old) (S.fault_count out.new) ⊎ Rose (N.fault_count notes.old) (N.fault_count notes.new))) }
+    ensures complete { (i : InvokeWords) (file body : List ℕ) (ops : List OpValue) → command_of (map string_bytes words.now) ≡ Some (AsksInvoke i)
+        → IsBuilt file ops → length body ≤ body_limit → IfSome (L.held lib.old) (λ files. HoldsBoth i files file body
+        → Yields Status.Ok result (Rose (L.fault_count lib.old) (L.fault_count lib.new))
+        (Rose (S.fault_count out.old) (S.fault_count out.new) ⊎ Rose (N.fault_count notes.old) (N.fault_count notes.new))) }
 
     ensures same_files { L.held lib.new ≡ L.held lib.old }
     ensures later { L.fault_count lib.old ≤ L.fault_count lib.new }

@@ -1,0 +1,110 @@
+-- What bytes spell a body, and with which number and at which place bytes are refused as one (WebAssembly Core 1.0, sections 5.4 and 5.5.13).
+use Rattle.std.specs.Prelude.{◌≡◌, ◌⊎◌, ℕ, List, [], ◌∷◌, ◌++◌, length, Option, Some, None}
+use Rattle.wasm_ops.specs.declared.faults.Fault.{Fault}
+use Rattle.wasm_ops.specs.declared.modules.Body.{Body}
+use Rattle.wasm_ops.specs.declared.types.ValType.{ValType}
+use Rattle.wasm_ops.specs.Input.{Input}
+use Rattle.wasm_ops.specs.Sequence.{Sequence, Done, Plain, InBlock, InLoop, InIf, InIfElse, IsNested, flat_body}
+use Rattle.wasm_code.specs.declared.items.Item.{Item}
+use Rattle.wasm_code.specs.declared.items.Item.TheVariants as item
+use Rattle.wasm_code.specs.declared.items.Opener.TheVariants as opener
+use Rattle.wasm_code.specs.declared.items.Kind.{Kind}
+use Rattle.wasm_code.specs.declared.items.Kind.TheVariants as kind
+use Rattle.wasm_code.specs.Reading.{fault_at}
+use Rattle.wasm_code.specs.Items.{ReadsItem, RefusesItem}
+use Rattle.wasm_code.specs.Locals.{ReadsLocals, RefusesLocals}
+
+-- the items of a structured sequence in order: what opens a block comes before the items in it, and `end` behind them
+abbrev pub items_of : Sequence → List Item
+items_of Done = []
+items_of (Plain op rest) = item.Operator op ∷ items_of rest
+items_of (InBlock result body rest) = item.Opens opener.Block result ∷ (items_of body ++ item.Close ∷ items_of rest)
+items_of (InLoop result body rest) = item.Opens opener.Loop result ∷ (items_of body ++ item.Close ∷ items_of rest)
+items_of (InIf result inner rest) = item.Opens opener.If result ∷ (items_of inner ++ item.Close ∷ items_of rest)
+items_of (InIfElse result inner other rest) =
+    item.Opens opener.If result ∷ (items_of inner ++ item.Turn ∷ (items_of other ++ item.Close ∷ items_of rest))
+
+-- the blocks that are open behind an item, the inmost first, where these are open before it; none where the item may not stand there
+abbrev pub open_behind : Item → List Kind → Option (List Kind)
+open_behind (item.Operator op) blocks = Some blocks
+open_behind (item.Opens opener.Block result) blocks = Some (kind.Block ∷ blocks)
+open_behind (item.Opens opener.Loop result) blocks = Some (kind.Loop ∷ blocks)
+open_behind (item.Opens opener.If result) blocks = Some (kind.Then ∷ blocks)
+open_behind item.Turn (kind.Then ∷ blocks) = Some (kind.Else ∷ blocks)
+open_behind item.Turn blocks = None
+open_behind item.Close [] = None
+open_behind item.Close (inmost ∷ blocks) = Some blocks
+
+-- a place between two items: the blocks that are open, the labels of the `br_table`s so far, and what lies ahead
+pub record Place : Type 0 where
+  pub blocks : List Kind
+  pub targets : List ℕ
+  pub ahead : Input
+
+-- one item leads from a place to another
+pub record Passes (here : Place) (passed : Item) (there : Place) : Type 0 where
+  pub spelt : ReadsItem (length here.blocks) here.targets here.ahead (passed, there.targets) there.ahead
+  pub stands : open_behind passed here.blocks ≡ Some there.blocks
+
+-- the bytes from a place to another are cut into the spellings of these items
+abbrev pub AreCut : List Item → (here there : Place) → Type 0
+AreCut [] here there = here ≡ there
+AreCut (passed ∷ items) here there = (next : Place) × Passes here passed next × AreCut items next there
+
+-- the place before all bytes, and the one before the first item
+abbrev pub beginning : List ℕ → Input
+beginning bytes = record { at = 0; left = bytes }
+
+abbrev pub first_place : Input → Place
+first_place start = record { blocks = []; targets = []; ahead = start }
+
+-- locals, then the items of a structured sequence, then the closing `end`, and no byte behind it
+pub record SpellsBody (bytes : List ℕ) (body : Body) : Type 0 where
+  pub start : Input
+  pub sequence : Sequence
+  pub last : Place
+  pub after : Input
+  pub locals : ReadsLocals (beginning bytes) body.locals start
+  pub cut : AreCut (items_of sequence) (first_place start) last
+  pub closed : ReadsItem (length last.blocks) last.targets last.ahead (item.Close, body.targets) after
+  pub whole : after.left ≡ []
+  pub nested : IsNested sequence
+  pub laid_out : body.ops ≡ flat_body sequence
+
+-- `else` where no `if` is the inmost block, or one that has its `else` already
+pub record Misplaced (here : Place) (fault : Fault) : Type 0 where
+  pub targets : List ℕ
+  pub after : Input
+  pub spelt : ReadsItem (length here.blocks) here.targets here.ahead (item.Turn, targets) after
+  pub no_if : open_behind item.Turn here.blocks ≡ None
+  pub told : fault ≡ fault_at 9 here.ahead.at
+
+-- bytes behind the `end` that closes the body
+pub record Remains (here : Place) (fault : Fault) : Type 0 where
+  pub targets : List ℕ
+  pub after : Input
+  pub byte : ℕ
+  pub rest : List ℕ
+  pub no_block : here.blocks ≡ []
+  pub spelt : ReadsItem (length here.blocks) here.targets here.ahead (item.Close, targets) after
+  pub more : after.left ≡ byte ∷ rest
+  pub told : fault ≡ fault_at 14 after.at
+
+-- the item that would come next is refused
+abbrev pub RefusesNext : (here : Place) (fault : Fault) → Type 0
+RefusesNext here fault =
+    RefusesItem (length here.blocks) here.targets here.ahead fault ⊎ (Misplaced here fault ⊎ Remains here fault)
+
+-- all items before the one at hand are spelt, and this one is refused
+pub record RefusesItems (bytes : List ℕ) (fault : Fault) : Type 0 where
+  pub all : List ValType
+  pub start : Input
+  pub items : List Item
+  pub here : Place
+  pub locals : ReadsLocals (beginning bytes) all start
+  pub cut : AreCut items (first_place start) here
+  pub refused : RefusesNext here fault
+
+-- the bytes are refused as a body, with the fault's number at its place
+abbrev pub RefusesBody : (bytes : List ℕ) (fault : Fault) → Type 0
+RefusesBody bytes fault = RefusesLocals (beginning bytes) fault ⊎ RefusesItems bytes fault

@@ -1,0 +1,263 @@
+//! What each byte begins in a body, and what follows it (WebAssembly Core 1.0, section 5.4).
+ghost use Rattle.std.specs.Prelude.{◌≡◌, false};
+ghost use Rattle.wasm_code.specs.Forms.{is_float_op, form_of, int_op, row_of, look_up, with_index, control_rows, variable_rows, load_rows, store_rows};
+
+use wasm_ops::{Access, IntOp, Op, ValType};
+
+use crate::items::Opener;
+
+/// What a byte begins in the place of an operator.
+#[derive(Clone, Copy)]
+pub enum Form {
+    /// An operator that opens no block.
+    Operator(Layout),
+
+    /// `br_table`, with its labels.
+    Labels,
+
+    /// The beginning of a block, with a block type.
+    Opens(Opener),
+
+    /// `else`
+    Turn,
+
+    /// `end`
+    Close,
+}
+
+/// What follows the byte of an operator.
+#[derive(Clone, Copy)]
+pub enum Layout {
+    /// Nothing.
+    Bare(Op),
+
+    /// An index or a label.
+    Index(Indexed),
+
+    /// An alignment and an offset, of a load.
+    Load(Access),
+
+    /// An alignment and an offset, of a store.
+    Store(Access),
+
+    /// A byte that must be 00.
+    Reserved(Op),
+
+    /// A signed number of 32 bits, of `i32.const`.
+    Word,
+
+    /// A signed number of 64 bits, of `i64.const`.
+    Long,
+
+    /// The index of a type and a byte that must be 00, of `call_indirect`.
+    IndirectCall,
+
+    /// Whatever follows a float operator, which no body has here.
+    Float,
+
+    /// The byte is none of WebAssembly's.
+    Unknown,
+}
+
+/// An operator that has an index or a label alone.
+#[derive(Clone, Copy)]
+pub enum Indexed {
+    /// `br`
+    Br,
+
+    /// `br_if`
+    BrIf,
+
+    /// `call`
+    Call,
+
+    /// `local.get`
+    LocalGet,
+
+    /// `local.set`
+    LocalSet,
+
+    /// `local.tee`
+    LocalTee,
+
+    /// `global.get`
+    GlobalGet,
+
+    /// `global.set`
+    GlobalSet,
+}
+
+impl Indexed {
+    /// The operator with its index or label.
+    pub(crate) fn with(self, index: u32) -> Op
+        ensures { result ≡ with_index self index }
+    {
+        match self {
+            Indexed::Br => Op::Br(index),
+            Indexed::BrIf => Op::BrIf(index),
+            Indexed::Call => Op::Call(index),
+            Indexed::LocalGet => Op::LocalGet(index),
+            Indexed::LocalSet => Op::LocalSet(index),
+            Indexed::LocalTee => Op::LocalTee(index),
+            Indexed::GlobalGet => Op::GlobalGet(index),
+            Indexed::GlobalSet => Op::GlobalSet(index),
+        }
+    }
+}
+
+impl Form {
+    /// What the byte begins.
+    pub(crate) fn of(byte: u8) -> Form
+        ensures { result ≡ form_of byte }
+    {
+        match IntOp::from_byte(byte) {
+            Some(op) => bare(integer(op)),
+            None => {
+                if is_float(byte) {
+                    Form::Operator(Layout::Float)
+                } else {
+                    row(byte)
+                }
+            }
+        }
+    }
+}
+
+fn bare(op: Op) -> Form
+    ensures { result ≡ Form.Operator (Layout.Bare op) }
+{
+    Form::Operator(Layout::Bare(op))
+}
+
+fn integer(op: IntOp) -> Op
+    ensures { result ≡ int_op op }
+{
+    match op.byte() {
+        0x45 | 0x50 | 0x67..=0x69 | 0x79..=0x7B | 0xA7..=0xAD => Op::Unary(op),
+        _ => Op::Binary(op),
+    }
+}
+
+fn is_float(byte: u8) -> bool
+    ensures { result ≡ is_float_op byte }
+{
+    matches!(
+        byte,
+        0x2A..=0x2B | 0x38..=0x39 | 0x43..=0x44 | 0x5B..=0x66 | 0x8B..=0xA6 | 0xA8..=0xAB | 0xAE..=0xBF
+    )
+}
+
+fn row(byte: u8) -> Form
+    ensures { result ≡ row_of byte }
+{
+    if byte < 0x28 {
+        if byte < 0x1A {
+            control(byte)
+        } else {
+            variable(byte)
+        }
+    } else if byte < 0x36 {
+        load(byte)
+    } else {
+        store(byte)
+    }
+}
+
+fn control(byte: u8) -> Form
+    ensures { result ≡ look_up control_rows byte }
+{
+    match byte {
+        0x00 => bare(Op::Unreachable),
+        0x01 => bare(Op::Nop),
+        0x02 => Form::Opens(Opener::Block),
+        0x03 => Form::Opens(Opener::Loop),
+        0x04 => Form::Opens(Opener::If),
+        0x05 => Form::Turn,
+        0x0B => Form::Close,
+        0x0C => index(Indexed::Br),
+        0x0D => index(Indexed::BrIf),
+        0x0E => Form::Labels,
+        0x0F => bare(Op::Return),
+        0x10 => index(Indexed::Call),
+        0x11 => Form::Operator(Layout::IndirectCall),
+        _ => Form::Operator(Layout::Unknown),
+    }
+}
+
+fn index(op: Indexed) -> Form
+    ensures { result ≡ Form.Operator (Layout.Index op) }
+{
+    Form::Operator(Layout::Index(op))
+}
+
+fn variable(byte: u8) -> Form
+    ensures { result ≡ look_up variable_rows byte }
+{
+    match byte {
+        0x1A => bare(Op::Drop),
+        0x1B => bare(Op::Select),
+        0x20 => index(Indexed::LocalGet),
+        0x21 => index(Indexed::LocalSet),
+        0x22 => index(Indexed::LocalTee),
+        0x23 => index(Indexed::GlobalGet),
+        0x24 => index(Indexed::GlobalSet),
+        _ => Form::Operator(Layout::Unknown),
+    }
+}
+
+fn load(byte: u8) -> Form
+    ensures { result ≡ look_up load_rows byte }
+{
+    let access = match byte {
+        0x28 => moved(ValType::I32, 4, false),
+        0x29 => moved(ValType::I64, 8, false),
+        0x2C => moved(ValType::I32, 1, true),
+        0x2D => moved(ValType::I32, 1, false),
+        0x2E => moved(ValType::I32, 2, true),
+        0x2F => moved(ValType::I32, 2, false),
+        0x30 => moved(ValType::I64, 1, true),
+        0x31 => moved(ValType::I64, 1, false),
+        0x32 => moved(ValType::I64, 2, true),
+        0x33 => moved(ValType::I64, 2, false),
+        0x34 => moved(ValType::I64, 4, true),
+        0x35 => moved(ValType::I64, 4, false),
+        _ => return Form::Operator(Layout::Unknown),
+    };
+    Form::Operator(Layout::Load(access))
+}
+
+// So many bytes are moved, with the sign or without it.
+fn moved(value: ValType, width: u32, signed: bool) -> Access
+    ensures { result ≡ record { value = value; width = width; signed = signed } }
+{
+    Access {
+        value,
+        width,
+        signed,
+    }
+}
+
+fn store(byte: u8) -> Form
+    ensures { result ≡ look_up store_rows byte }
+{
+    match byte {
+        0x36 => stored(ValType::I32, 4),
+        0x37 => stored(ValType::I64, 8),
+        0x3A => stored(ValType::I32, 1),
+        0x3B => stored(ValType::I32, 2),
+        0x3C => stored(ValType::I64, 1),
+        0x3D => stored(ValType::I64, 2),
+        0x3E => stored(ValType::I64, 4),
+        0x3F => Form::Operator(Layout::Reserved(Op::MemorySize)),
+        0x40 => Form::Operator(Layout::Reserved(Op::MemoryGrow)),
+        0x41 => Form::Operator(Layout::Word),
+        0x42 => Form::Operator(Layout::Long),
+        _ => Form::Operator(Layout::Unknown),
+    }
+}
+
+fn stored(value: ValType, width: u32) -> Form
+    ensures { result ≡ Form.Operator (Layout.Store (record { value = value; width = width; signed = false })) }
+{
+    Form::Operator(Layout::Store(moved(value, width, false)))
+}

@@ -1,2 +1,5 @@
 pub mod Decisions
 pub mod ItemLaws
+pub mod ItemFacts
+pub mod Halts
+pub mod Completions

@@ -58,7 +58,7 @@ beginning bytes = record { at = 0; left = bytes }
 abbrev pub first_place : Input → Place
 first_place start = record { blocks = []; targets = []; ahead = start }
 
--- locals, then the items of a structured sequence, then the closing `end`, and no byte behind it
+-- locals, then the items of a structured sequence, then the closing `end` where no block is open, and no byte behind it
 pub record SpellsBody (bytes : List ℕ) (body : Body) : Type 0 where
   pub start : Input
   pub sequence : Sequence
@@ -66,6 +66,7 @@ pub record SpellsBody (bytes : List ℕ) (body : Body) : Type 0 where
   pub after : Input
   pub locals : ReadsLocals (beginning bytes) body.locals start
   pub cut : AreCut (items_of sequence) (first_place start) last
+  pub no_block : last.blocks ≡ []
   pub closed : ReadsItem (length last.blocks) last.targets last.ahead (item.Close, body.targets) after
   pub whole : after.left ≡ []
   pub nested : IsNested sequence

@@ -5,8 +5,10 @@
 //! It stands on `wasm_ops`, whose cursor reads the numbers.
 #![tactic(auto)]
 
+mod blocks;
 mod forms;
 mod items;
 
+pub use blocks::{OpenBlock, Part};
 pub use forms::{Form, Indexed, Layout};
 pub use items::{Item, Kind, Opener};

@@ -1,0 +1,32 @@
+//! The blocks that are open while a body is read.
+
+use wasm_ops::ValType;
+
+/// What of a block is being read.
+#[derive(Clone, Copy)]
+pub enum Part {
+    /// The body of a `block`.
+    Block,
+
+    /// The body of a `loop`.
+    Loop,
+
+    /// What an `if` does where it is true.
+    Then,
+
+    /// What it does else. Its `Else` has this place.
+    Else(u32),
+}
+
+/// An open block.
+#[derive(Clone, Copy)]
+pub struct OpenBlock {
+    /// What of it is being read.
+    pub(crate) part: Part,
+
+    /// Its result.
+    pub(crate) result: Option<ValType>,
+
+    /// The place of the operator that opens it.
+    pub(crate) at: u32,
+}

@@ -3,3 +3,5 @@ pub mod ItemLaws
 pub mod ItemFacts
 pub mod Halts
 pub mod Completions
+pub mod LayingLaws
+pub mod BodyLaws

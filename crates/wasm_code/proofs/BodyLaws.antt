@@ -1,0 +1,235 @@
+-- For each list of bytes one of the two holds in one way: they spell a body, or they are refused with a fault.
+use Rattle.std.proofs.Common.{◌≡◌, ◌⊎◌, inl, inr, ℕ, suc, zero, ◌-◌, ◌<◌, ◌≤◌, List, [], ◌∷◌, ◌++◌, length, Option, Some, None, Ok, Err, refl, ap, sym, ◌∙◌, subst, arith}
+use Rattle.wasm_ops.specs.declared.faults.Fault.{Fault}
+use Rattle.wasm_ops.specs.declared.modules.Body.{Body}
+use Rattle.wasm_ops.specs.declared.operators.Op.{Op}
+use Rattle.wasm_ops.specs.declared.operators.Op.TheVariants as op
+use Rattle.wasm_ops.specs.declared.types.ValType.{ValType}
+use Rattle.wasm_ops.specs.Input.{Input}
+use Rattle.wasm_ops.specs.Sequence.{Sequence, flat, flat_body}
+use Rattle.wasm_code.specs.declared.items.Item.{Item}
+use Rattle.wasm_code.specs.declared.items.Item.TheVariants as item
+use Rattle.wasm_code.specs.declared.items.Opener.TheVariants as opener
+use Rattle.wasm_code.specs.declared.items.Kind.{Kind}
+use Rattle.wasm_code.specs.declared.items.Kind.TheVariants as kind
+use Rattle.wasm_code.specs.Reading.{Read, fault_at}
+use Rattle.wasm_code.specs.Items.{Parsed, ReadsItem, RefusesItem, item_from}
+use Rattle.wasm_code.specs.Locals.{ReadsLocals, RefusesLocals, locals_from}
+use Rattle.wasm_code.specs.Bodies.{items_of, open_behind, Place, Passes, AreCut, beginning, first_place, SpellsBody, Misplaced, Remains, RefusesNext, RefusesItems, RefusesBody}
+use Rattle.wasm_code.specs.Laying.{Laid, with_items}
+use Rattle.wasm_code.proofs.Halts as halts
+use Rattle.wasm_code.proofs.Halts.{Halts, ReadsAt, one_item, no_item, same_place, refused_halts, closed_halts, one_halt, cut_more}
+use Rattle.wasm_code.proofs.ItemLaws.{item_decides, locals_decides}
+use Rattle.wasm_code.proofs.ItemFacts.{item_shorter}
+use Rattle.wasm_code.proofs.Completions.{sequence_of}
+use Rattle.wasm_code.proofs.LayingLaws.{laid}
+
+-- The locals are read in one way.
+
+one_locals
+    : (bytes : List ℕ) (x y : List ValType) (here there : Input) → ReadsLocals (beginning bytes) x here → ReadsLocals (beginning bytes) y there
+    → (x ≡ y) × (here ≡ there)
+one_locals bytes =
+    halts.one_value (locals_from (beginning bytes)) (ReadsLocals (beginning bytes)) (RefusesLocals (beginning bytes)) (locals_decides (beginning bytes))
+
+no_locals : (bytes : List ℕ) (x : List ValType) (there : Input) (fault : Fault) → ReadsLocals (beginning bytes) x there → RefusesLocals (beginning bytes) fault → ⊥
+no_locals bytes =
+    halts.never_both (locals_from (beginning bytes)) (ReadsLocals (beginning bytes)) (RefusesLocals (beginning bytes)) (locals_decides (beginning bytes))
+
+-- Two ways through the items of one body end at one place.
+same_end
+    : (bytes : List ℕ) (x y : List ValType) (start other : Input) (is js : List Item) (a b : Place)
+    → ReadsLocals (beginning bytes) x start → ReadsLocals (beginning bytes) y other
+    → AreCut is (first_place start) a → AreCut js (first_place other) b → Halts a → Halts b → (is ≡ js) × (a ≡ b)
+same_end bytes x y start other is js a b one two cut also halts ends =
+    let begun = (one_locals bytes x y start other one two).1 in
+    let P : Input → Type 0 = λ z. AreCut js (first_place z) b in
+    one_halt is js (first_place start) a b cut (subst P (sym begun) also) halts ends
+
+-- A body and a fault are never both.
+
+clashes : (here : Place) (targets : List ℕ) (after : Input) (fault : Fault) → ReadsAt here (item.Close, targets) after → after.left ≡ [] → RefusesNext here fault → ⊥
+clashes here targets after fault closes whole (inl refuses) = no_item here (item.Close, targets) after fault closes refuses
+clashes here targets after fault closes whole (inr (inl misplaced)) =
+    let same = (one_item here (item.Close, targets) (item.Turn, misplaced.targets) after misplaced.after closes misplaced.spelt).0 in
+    let items = ap (λ (p : Parsed). p.0) same in cc
+clashes here targets after fault closes whole (inr (inr remains)) =
+    let same = (one_item here (item.Close, targets) (item.Close, remains.targets) after remains.after closes remains.spelt).1 in
+    let lefts = ap (λ (z : Input). z.left) same in
+    let more = remains.more in cc
+
+pub body_or_fault : (bytes : List ℕ) (body : Body) (fault : Fault) → SpellsBody bytes body → RefusesBody bytes fault → ⊥
+body_or_fault bytes body fault spells (inl refuses) = no_locals bytes body.locals spells.start fault spells.locals refuses
+body_or_fault bytes body fault spells (inr refuses) =
+    let ends = closed_halts spells.last body.targets spells.after spells.no_block spells.closed in
+    let same =
+        (same_end bytes body.locals refuses.all spells.start refuses.start (items_of spells.sequence) refuses.items spells.last refuses.here
+            spells.locals refuses.locals spells.cut refuses.cut ends (refused_halts refuses.here fault refuses.refused)).1 in
+    let P : Place → Type 0 = λ p. RefusesNext p fault in
+    clashes spells.last body.targets spells.after fault spells.closed spells.whole (subst P (sym same) refuses.refused)
+
+-- One body.
+
+pub same_body : (x y : Body) → x.locals ≡ y.locals → x.ops ≡ y.ops → x.targets ≡ y.targets → x ≡ y
+same_body x y locals ops targets =
+    let with_locals : List ValType → Body = λ v. record { locals = v; ops = x.ops; targets = x.targets } in
+    let with_ops : List Op → Body = λ v. record { locals = y.locals; ops = v; targets = x.targets } in
+    let with_targets : List ℕ → Body = λ v. record { locals = y.locals; ops = y.ops; targets = v } in
+    ap with_locals locals ∙ ap with_ops ops ∙ ap with_targets targets
+
+-- the items tell the flat form
+pub same_flat : (s t : Sequence) → items_of s ≡ items_of t → flat_body s ≡ flat_body t
+same_flat s t e =
+    let one : with_items (items_of s) (record { ops = []; blocks = [] }) ≡ record { ops = flat 0 s; blocks = [] } = laid s [] [] in
+    let two : with_items (items_of t) (record { ops = []; blocks = [] }) ≡ record { ops = flat 0 t; blocks = [] } = laid t [] [] in
+    let both = ap (λ (is : List Item). with_items is (record { ops = []; blocks = [] })) e in
+    ap (λ (l : Laid). l.ops ++ op.End ∷ []) (sym one ∙ both ∙ two)
+
+pub one_body : (bytes : List ℕ) (x y : Body) → SpellsBody bytes x → SpellsBody bytes y → x ≡ y
+one_body bytes x y one two =
+    let ends = closed_halts one.last x.targets one.after one.no_block one.closed in
+    let also = closed_halts two.last y.targets two.after two.no_block two.closed in
+    let same =
+        same_end bytes x.locals y.locals one.start two.start (items_of one.sequence) (items_of two.sequence) one.last two.last
+        one.locals two.locals one.cut two.cut ends also in
+    let P : Place → Type 0 = λ p. ReadsAt p (item.Close, y.targets) two.after in
+    let closes = subst P (sym same.1) two.closed in
+    let parsed = (one_item one.last (item.Close, x.targets) (item.Close, y.targets) one.after two.after one.closed closes).0 in
+    let locals = (one_locals bytes x.locals y.locals one.start two.start one.locals two.locals).0 in
+    let ops = one.laid_out ∙ same_flat one.sequence two.sequence same.0 ∙ sym two.laid_out in
+    same_body x y locals ops (ap (λ (p : Parsed). p.1) parsed)
+
+-- One fault.
+
+one_misplaced : (here : Place) (f g : Fault) → Misplaced here f → Misplaced here g → f ≡ g
+one_misplaced here f g one two = one.told ∙ sym two.told
+
+apart : (here : Place) (f g : Fault) → Misplaced here f → Remains here g → ⊥
+apart here f g one two =
+    let same = (one_item here (item.Turn, one.targets) (item.Close, two.targets) one.after two.after one.spelt two.spelt).0 in
+    let items = ap (λ (p : Parsed). p.0) same in cc
+
+one_next : (here : Place) (f g : Fault) → RefusesNext here f → RefusesNext here g → f ≡ g
+one_next here f g (inl one) (inl two) =
+    halts.one_fault (item_from (length here.blocks) here.targets here.ahead) (ReadsAt here)
+    (RefusesItem (length here.blocks) here.targets here.ahead) (item_decides (length here.blocks) here.targets here.ahead) f g one two
+one_next here f g (inl one) (inr (inl two)) = absurd (no_item here (item.Turn, two.targets) two.after f two.spelt one)
+one_next here f g (inl one) (inr (inr two)) = absurd (no_item here (item.Close, two.targets) two.after f two.spelt one)
+one_next here f g (inr (inl one)) (inl two) = absurd (no_item here (item.Turn, one.targets) one.after g one.spelt two)
+one_next here f g (inr (inr one)) (inl two) = absurd (no_item here (item.Close, one.targets) one.after g one.spelt two)
+one_next here f g (inr (inl one)) (inr (inl two)) = one_misplaced here f g one two
+one_next here f g (inr (inl one)) (inr (inr two)) = absurd (apart here f g one two)
+one_next here f g (inr (inr one)) (inr (inl two)) = absurd (apart here g f two one)
+one_next here f g (inr (inr one)) (inr (inr two)) =
+    let same = (one_item here (item.Close, one.targets) (item.Close, two.targets) one.after two.after one.spelt two.spelt).1 in
+    one.told ∙ ap (λ (z : Input). fault_at 14 z.at) same ∙ sym two.told
+
+pub one_refusal : (bytes : List ℕ) (f g : Fault) → RefusesBody bytes f → RefusesBody bytes g → f ≡ g
+one_refusal bytes f g (inl one) (inl two) =
+    halts.one_fault (locals_from (beginning bytes)) (ReadsLocals (beginning bytes)) (RefusesLocals (beginning bytes)) (locals_decides (beginning bytes)) f g one two
+one_refusal bytes f g (inl one) (inr two) = absurd (no_locals bytes two.all two.start f two.locals one)
+one_refusal bytes f g (inr one) (inl two) = absurd (no_locals bytes one.all one.start g one.locals two)
+one_refusal bytes f g (inr one) (inr two) =
+    let same =
+        (same_end bytes one.all two.all one.start two.start one.items two.items one.here two.here one.locals two.locals one.cut two.cut
+            (refused_halts one.here f one.refused) (refused_halts two.here g two.refused)).1 in
+    let P : Place → Type 0 = λ p. RefusesNext p g in
+    one_next one.here f g one.refused (subst P (sym same) two.refused)
+
+-- One of the two.
+
+-- where the items lead
+abbrev Leads : Place → Type 0
+Leads start =
+    ((items : List Item) × (last : Place) × (targets : List ℕ) × (after : Input) × AreCut items start last
+    × (last.blocks ≡ []) × ReadsAt last (item.Close, targets) after × (after.left ≡ []))
+    ⊎ ((items : List Item) × (here : Place) × (fault : Fault) × AreCut items start here × RefusesNext here fault)
+
+-- an item that stands, and one that does not
+abbrev Goes : Item → List Kind → Type 0
+Goes passed blocks =
+    ((next : List Kind) × (open_behind passed blocks ≡ Some next))
+    ⊎ (((passed ≡ item.Turn) × (open_behind item.Turn blocks ≡ None)) ⊎ ((passed ≡ item.Close) × (blocks ≡ [])))
+
+goes : (passed : Item) (blocks : List Kind) → Goes passed blocks
+goes (item.Operator o) blocks = inl (blocks, refl)
+goes (item.Opens opener.Block result) blocks = inl (kind.Block ∷ blocks, refl)
+goes (item.Opens opener.Loop result) blocks = inl (kind.Loop ∷ blocks, refl)
+goes (item.Opens opener.If result) blocks = inl (kind.Then ∷ blocks, refl)
+goes item.Turn [] = inr (inl (refl, refl))
+goes item.Turn (kind.Block ∷ blocks) = inr (inl (refl, refl))
+goes item.Turn (kind.Loop ∷ blocks) = inr (inl (refl, refl))
+goes item.Turn (kind.Then ∷ blocks) = inl (kind.Else ∷ blocks, refl)
+goes item.Turn (kind.Else ∷ blocks) = inr (inl (refl, refl))
+goes item.Close [] = inr (inr (refl, refl))
+goes item.Close (inmost ∷ blocks) = inl (blocks, refl)
+
+-- behind the `end` of the body
+left_over
+    : (start here : Place) (items : List Item) (targets : List ℕ) (after : Input) (left : List ℕ) → AreCut items start here → here.blocks ≡ []
+    → ReadsAt here (item.Close, targets) after → after.left ≡ left → Leads start
+left_over start here items targets after [] cut none spelt e = inl (items, here, targets, after, cut, none, spelt, e)
+left_over start here items targets after (byte ∷ rest) cut none spelt e =
+    inr (items, here, fault_at 14 after.at, cut, inr (inr record {
+      targets = targets; after = after; byte = byte; rest = rest; no_block = none; spelt = spelt; more = e; told = refl;
+    }))
+
+as_turn : (here : Place) (p : Parsed) (after : Input) (passed : Item) → p.0 ≡ passed → ReadsAt here p after → ReadsAt here (passed, p.1) after
+as_turn here p after passed e reads = let P : Item → Type 0 = λ i. ReadsAt here (i, p.1) after in subst P e reads
+
+walk_goes
+    : (start here : Place) (items : List Item) (p : Parsed) (after : Input)
+    → ((next : Place) → AreCut (items ++ p.0 ∷ []) start next → length next.ahead.left < length here.ahead.left → Leads start)
+    → AreCut items start here → ReadsAt here p after → Goes p.0 here.blocks → Leads start
+walk_goes start here items p after further cut reads (inl stands) =
+    let next : Place = record { blocks = stands.0; targets = p.1; ahead = after } in
+    further next
+    (cut_more items p.0 start here next cut (record { spelt = reads; stands = stands.1 }))
+    (item_shorter (length here.blocks) here.targets here.ahead p after reads)
+walk_goes start here items p after further cut reads (inr (inl turns)) =
+    inr (items, here, fault_at 9 here.ahead.at, cut, inr (inl record {
+      targets = p.1; after = after; spelt = as_turn here p after item.Turn turns.0 reads; no_if = turns.1; told = refl;
+    }))
+walk_goes start here items p after further cut reads (inr (inr closes)) =
+    left_over start here items p.1 after after.left cut closes.1 (as_turn here p after item.Close closes.0 reads) refl
+
+walk_at
+    : (start here : Place) (items : List Item) (read : Read Parsed)
+    → ((passed : Item) (next : Place) → AreCut (items ++ passed ∷ []) start next → length next.ahead.left < length here.ahead.left → Leads start)
+    → AreCut items start here → item_from (length here.blocks) here.targets here.ahead ≡ read → Leads start
+walk_at start here items (Ok read) further cut e =
+    let reads = (item_decides (length here.blocks) here.targets here.ahead).found read.0 read.1 e in
+    walk_goes start here items read.0 read.1 (further read.0.0) cut reads (goes read.0.0 here.blocks)
+walk_at start here items (Err fault) further cut e =
+    inr (items, here, fault, cut, inl ((item_decides (length here.blocks) here.targets here.ahead).refused fault e))
+
+walk : (n : ℕ) (start here : Place) (items : List Item) → AreCut items start here → length here.ahead.left < n → Leads start
+walk zero start here items cut short = let bad : ⊥ = omega arith in absurd bad
+walk (suc n) start here items cut short =
+    walk_at start here items (item_from (length here.blocks) here.targets here.ahead)
+    (λ passed next longer shorter. walk n start next (items ++ passed ∷ []) longer (omega arith)) cut refl
+
+abbrev IsEither : List ℕ → Type 0
+IsEither bytes = ((body : Body) × SpellsBody bytes body) ⊎ ((fault : Fault) × RefusesBody bytes fault)
+
+either_of : (bytes : List ℕ) (locals : List ValType) (start : Input) → ReadsLocals (beginning bytes) locals start → Leads (first_place start) → IsEither bytes
+either_of bytes locals start reads (inl leads) =
+    let whole = sequence_of leads.0 (first_place start) leads.1 refl leads.4 leads.5 in
+    let P : List Item → Type 0 = λ is. AreCut is (first_place start) leads.1 in
+    let body : Body = record { locals = locals; ops = flat_body whole.0; targets = leads.2 } in
+    inl (body, record {
+      start = start; sequence = whole.0; last = leads.1; after = leads.3; locals = reads; cut = subst P whole.2 leads.4;
+      no_block = leads.5; closed = leads.6; whole = leads.7; nested = whole.1; laid_out = refl;
+    })
+either_of bytes locals start reads (inr leads) =
+    inr (leads.2, inr record { all = locals; start = start; items = leads.0; here = leads.1; locals = reads; cut = leads.3; refused = leads.4 })
+
+either_at : (bytes : List ℕ) (read : Read (List ValType)) → locals_from (beginning bytes) ≡ read → IsEither bytes
+either_at bytes (Ok read) e =
+    let reads = (locals_decides (beginning bytes)).found read.0 read.1 e in
+    let start = first_place read.1 in
+    either_of bytes read.0 read.1 reads (walk (suc (length read.1.left)) start start [] refl (omega arith))
+either_at bytes (Err fault) e = inr (fault, inl ((locals_decides (beginning bytes)).refused fault e))
+
+pub either : (bytes : List ℕ) → IsEither bytes
+either bytes = either_at bytes (locals_from (beginning bytes)) refl

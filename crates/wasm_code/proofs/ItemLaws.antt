@@ -21,7 +21,7 @@ use Rattle.wasm_code.specs.Reading.{Read, and_then, as_part, within, fault_at, R
 use Rattle.wasm_code.specs.Types.{type_of, result_of, no_type, typed, as_from, ReadsAs, RefusesAs, ReadsType, RefusesType, type_from, ReadsBlockType, RefusesBlockType, block_type_from}
 use Rattle.wasm_code.specs.Layouts.{ReadsZero, RefusesZero, ReadsIndex, ReadsAddress, RefusesAddress, ReadsLayout, RefusesLayout, zeroed, zero_from, index_from, address_from, layout_from}
 use Rattle.wasm_code.specs.Items.{most_targets, most_blocks, Parsed, ReadsLabels, RefusesLabels, table, ReadsForm, RefusesForm, ReadsItem, RefusesItem, labels_from, table_from, form_from, item_from}
-use Rattle.wasm_code.specs.Locals.{most_locals, ReadsGroups, RefusesGroups, ReadsLocals, RefusesLocals, groups_from, locals_from}
+use Rattle.wasm_code.specs.Locals.{most_locals, ReadsGroup, RefusesGroup, ReadsGroups, RefusesGroups, ReadsLocals, RefusesLocals, written_out, group_from, groups_from, locals_from}
 use Rattle.wasm_code.proofs.Decisions.{Decides, read_parts, read_same, fault_same, and_then_decides, as_part_decides, within_decides, stands_decides, fails_decides, byte_decides, number_decides}
 
 -- Types.
@@ -179,31 +179,31 @@ item_decides depth targets before =
 
 -- Locals.
 
+group_decides
+    : (locals : List ValType) (before : Input)
+    → Decides (List ValType) (group_from locals before) (ReadsGroup locals before) (RefusesGroup locals before)
+group_decides locals before =
+    and_then_decides (number_from Unsigned 32 before)
+    (λ count there. within most_locals (length locals + count) (fault_at 11 before.at) (as_part (written_out locals count) (type_from there)))
+    (ReadsNumber Unsigned 32 before) (RefusesNumber Unsigned 32 before)
+    (λ count there more after. (length locals + count ≤ most_locals) × ((value : ValType) × ReadsType there value after × (more ≡ locals ++ replicate count value)))
+    (λ count there fault. ((most_locals < length locals + count) × (fault ≡ fault_at 11 before.at)) ⊎ ((length locals + count ≤ most_locals) × RefusesType there fault))
+    (u32_decides before)
+    (λ count there. within_decides most_locals (length locals + count) (fault_at 11 before.at) (as_part (written_out locals count) (type_from there))
+        (λ more after. (value : ValType) × ReadsType there value after × (more ≡ locals ++ replicate count value))
+        (RefusesType there)
+        (as_part_decides (written_out locals count) (type_from there) (ReadsType there) (RefusesType there) (as_decides type_of there)))
+
 groups_decides
     : (groups : ℕ) (locals : List ValType) (before : Input)
     → Decides (List ValType) (groups_from groups locals before) (ReadsGroups groups locals before) (RefusesGroups groups locals before)
 groups_decides zero locals before = stands_decides locals before
 groups_decides (suc groups) locals before =
-    and_then_decides (number_from Unsigned 32 before)
-    (λ count there. within most_locals (length locals + count) (fault_at 11 before.at)
-        (and_then (type_from there) (λ value behind. groups_from groups (locals ++ replicate count value) behind)))
-    (ReadsNumber Unsigned 32 before) (RefusesNumber Unsigned 32 before)
-    (λ count there all after. (length locals + count ≤ most_locals)
-    × ((value : ValType) × (behind : Input) × ReadsType there value behind × ReadsGroups groups (locals ++ replicate count value) behind all after))
-    (λ count there fault. ((most_locals < length locals + count) × (fault ≡ fault_at 11 before.at))
-    ⊎ ((length locals + count ≤ most_locals)
-    × (RefusesType there fault
-    ⊎ ((value : ValType) × (behind : Input) × ReadsType there value behind × RefusesGroups groups (locals ++ replicate count value) behind fault))))
-    (u32_decides before)
-    (λ count there. within_decides most_locals (length locals + count) (fault_at 11 before.at)
-        (and_then (type_from there) (λ value behind. groups_from groups (locals ++ replicate count value) behind))
-        (λ all after. (value : ValType) × (behind : Input) × ReadsType there value behind × ReadsGroups groups (locals ++ replicate count value) behind all after)
-        (λ fault. RefusesType there fault ⊎ ((value : ValType) × (behind : Input) × ReadsType there value behind × RefusesGroups groups (locals ++ replicate count value) behind fault))
-        (and_then_decides (type_from there) (λ value behind. groups_from groups (locals ++ replicate count value) behind)
-            (ReadsType there) (RefusesType there)
-            (λ value behind all after. ReadsGroups groups (locals ++ replicate count value) behind all after)
-            (λ value behind fault. RefusesGroups groups (locals ++ replicate count value) behind fault)
-            (as_decides type_of there) (λ value behind. groups_decides groups (locals ++ replicate count value) behind)))
+    and_then_decides (group_from locals before) (λ more there. groups_from groups more there)
+    (ReadsGroup locals before) (RefusesGroup locals before)
+    (λ more there all after. ReadsGroups groups more there all after)
+    (λ more there fault. RefusesGroups groups more there fault)
+    (group_decides locals before) (λ more there. groups_decides groups more there)
 
 pub locals_decides : (before : Input) → Decides (List ValType) (locals_from before) (ReadsLocals before) (RefusesLocals before)
 locals_decides before =

@@ -5,3 +5,4 @@ pub mod Halts
 pub mod Completions
 pub mod LayingLaws
 pub mod BodyLaws
+pub mod LoopSteps

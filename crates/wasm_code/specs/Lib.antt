@@ -1,4 +1,5 @@
 pub mod Bodies
+pub mod Faults
 pub mod Forms
 pub mod Items
 pub mod Laying

@@ -6,9 +6,15 @@
 #![tactic(auto)]
 
 mod blocks;
+mod faults;
 mod forms;
 mod items;
+mod labels;
+mod locals;
+mod layouts;
+mod value_types;
 
 pub use blocks::{OpenBlock, Part};
+pub use faults::CodeFault;
 pub use forms::{Form, Indexed, Layout};
 pub use items::{Item, Kind, Opener};

@@ -1,0 +1,25 @@
+-- What a call of the readers answers, beside what the definitions read there.
+use Rattle.std.specs.Prelude.{◌≡◌, Result, Ok, Err}
+use Rattle.wasm_ops.specs.declared.faults.Fault.{Fault}
+use Rattle.wasm_code.specs.declared.faults.CodeFault.{CodeFault}
+use Rattle.wasm_code.specs.declared.faults.CodeFault.TheVariants.{Bytes, NoMemory}
+
+-- what is read is answered, seen by a view, and so is the fault
+abbrev pub Tells : {A B : Type 0} → (A → B) → Result A Fault → Result B Fault → Type 0
+Tells view (Ok x) read = read ≡ Ok (view x)
+Tells view (Err fault) read = read ≡ Err fault
+
+-- memory ran out, or what is read has the fault
+abbrev pub IsFaultOf : {B : Type 0} → CodeFault → Result B Fault → Type 0
+IsFaultOf (Bytes fault) read = read ≡ Err fault
+IsFaultOf NoMemory read = Unit {0}
+
+-- the same as `Tells`, unless memory ran out
+abbrev pub Gives : {A B : Type 0} → (A → B) → Result A CodeFault → Result B Fault → Type 0
+Gives view (Ok x) read = read ≡ Ok (view x)
+Gives view (Err fault) read = IsFaultOf fault read
+
+-- memory ran out, or the fault is one of these
+abbrev pub IsAmong : CodeFault → (Fault → Type 0) → Type 0
+IsAmong (Bytes fault) Refuses = Refuses fault
+IsAmong NoMemory Refuses = Unit {0}

@@ -1,0 +1,99 @@
+//! What stands behind the byte of an operator that opens no block (WebAssembly Core 1.0, section 5.4).
+ghost use Rattle.std.specs.Prelude.{◌≡◌};
+ghost use Rattle.wasm_ops.specs.declared.operators.Op.TheVariants as op;
+ghost use Rattle.wasm_code.specs.Faults.{Tells};
+ghost use Rattle.wasm_code.specs.Forms.{with_index};
+ghost use Rattle.wasm_code.specs.Layouts.{zero_from, index_from, address_from, layout_from};
+
+use crate::forms::{Indexed, Layout};
+use wasm_ops::{Access, Cursor, Fault, Op};
+
+/// The operator whose byte stands at `at`, from what stands behind it.
+pub(crate) fn operator(layout: &Layout, at: u32, cursor: &mut Cursor<'_>) -> Result<Op, Fault>
+    ensures { Tells (λ op. (op, cursor.new)) result (layout_from layout.now at cursor.old) }
+{
+    match layout {
+        Layout::Bare(op) => Ok(*op),
+        Layout::Index(kind) => indexed(*kind, cursor),
+        Layout::Load(access) => load(access, cursor),
+        Layout::Store(access) => store(access, cursor),
+        Layout::Reserved(op) => reserved(op, cursor),
+        Layout::Word => word(cursor),
+        Layout::Long => long(cursor),
+        Layout::IndirectCall => indirect_call(cursor),
+        Layout::Float => Err(Fault {
+            number: 5,
+            place: at,
+        }),
+        Layout::Unknown => Err(Fault {
+            number: 6,
+            place: at,
+        }),
+    }
+}
+
+fn indexed(kind: Indexed, cursor: &mut Cursor<'_>) -> Result<Op, Fault>
+    ensures { Tells (λ op. (op, cursor.new)) result (index_from (with_index kind) cursor.old) }
+{
+    let index = cursor.u32_leb()?;
+    Ok(kind.with(index))
+}
+
+fn load(access: &Access, cursor: &mut Cursor<'_>) -> Result<Op, Fault>
+    ensures { Tells (λ op. (op, cursor.new)) result (address_from (op.Load access.now) cursor.old) }
+{
+    let align = cursor.u32_leb()?;
+    let offset = cursor.u32_leb()?;
+    Ok(Op::Load {
+        access: *access,
+        align,
+        offset,
+    })
+}
+
+fn store(access: &Access, cursor: &mut Cursor<'_>) -> Result<Op, Fault>
+    ensures { Tells (λ op. (op, cursor.new)) result (address_from (op.Store access.now) cursor.old) }
+{
+    let align = cursor.u32_leb()?;
+    let offset = cursor.u32_leb()?;
+    Ok(Op::Store {
+        access: *access,
+        align,
+        offset,
+    })
+}
+
+// The operator behind whose byte, or whose index, a byte 00 stands. Refused: 13 for another byte.
+fn reserved(op: &Op, cursor: &mut Cursor<'_>) -> Result<Op, Fault>
+    ensures { Tells (λ op. (op, cursor.new)) result (zero_from op.now cursor.old) }
+{
+    let at = cursor.at();
+    let byte = cursor.byte()?;
+    if byte == 0 {
+        Ok(*op)
+    } else {
+        Err(Fault {
+            number: 13,
+            place: at,
+        })
+    }
+}
+
+fn word(cursor: &mut Cursor<'_>) -> Result<Op, Fault>
+    ensures { Tells (λ op. (op, cursor.new)) result (layout_from Layout.Word 0 cursor.old) }
+{
+    Ok(Op::ConstI32(cursor.s32_leb()?))
+}
+
+fn long(cursor: &mut Cursor<'_>) -> Result<Op, Fault>
+    ensures { Tells (λ op. (op, cursor.new)) result (layout_from Layout.Long 0 cursor.old) }
+{
+    Ok(Op::ConstI64(cursor.s64_leb()?))
+}
+
+fn indirect_call(cursor: &mut Cursor<'_>) -> Result<Op, Fault>
+    ensures { Tells (λ op. (op, cursor.new)) result (layout_from Layout.IndirectCall 0 cursor.old) }
+{
+    let index = cursor.u32_leb()?;
+    reserved(&Op::CallIndirect(index), cursor)
+}

@@ -1,0 +1,63 @@
+//! Value types and block types (WebAssembly Core 1.0, sections 5.3.1 and 5.4.1).
+ghost use Rattle.std.specs.Prelude.{◌≡◌};
+ghost use Rattle.wasm_code.specs.Faults.{Tells};
+ghost use Rattle.wasm_code.specs.Reading.{fault_at};
+ghost use Rattle.wasm_code.specs.Types.{type_of, result_of, no_type, type_from, block_type_from};
+
+use wasm_ops::{Cursor, Fault, ValType};
+
+/// A value type. Refused: 1 where no byte is left, 7 for a float type, 8 for a byte that is no type.
+pub(crate) fn value_type(cursor: &mut Cursor<'_>) -> Result<ValType, Fault>
+    ensures { Tells (λ value. (value, cursor.new)) result (type_from cursor.old) }
+{
+    let at = cursor.at();
+    let byte = cursor.byte()?;
+    match value_type_of(byte) {
+        Some(value) => Ok(value),
+        None => Err(no_type_at(at, byte)),
+    }
+}
+
+/// A block type: the result of the block, if it has one. Refused like `value_type`.
+pub(crate) fn block_type(cursor: &mut Cursor<'_>) -> Result<Option<ValType>, Fault>
+    ensures { Tells (λ value. (value, cursor.new)) result (block_type_from cursor.old) }
+{
+    let at = cursor.at();
+    let byte = cursor.byte()?;
+    match block_type_of(byte) {
+        Some(value) => Ok(value),
+        None => Err(no_type_at(at, byte)),
+    }
+}
+
+fn value_type_of(byte: u8) -> Option<ValType>
+    ensures { result ≡ type_of byte }
+{
+    match byte {
+        0x7F => Some(ValType::I32),
+        0x7E => Some(ValType::I64),
+        _ => None,
+    }
+}
+
+fn block_type_of(byte: u8) -> Option<Option<ValType>>
+    ensures { result ≡ result_of byte }
+{
+    match byte {
+        0x40 => Some(None),
+        0x7F => Some(Some(ValType::I32)),
+        0x7E => Some(Some(ValType::I64)),
+        _ => None,
+    }
+}
+
+// The refusal of a byte that is no type here.
+fn no_type_at(at: u32, byte: u8) -> Fault
+    ensures { result ≡ fault_at (no_type byte) at }
+{
+    let number = match byte {
+        0x7D | 0x7C => 7,
+        _ => 8,
+    };
+    Fault { number, place: at }
+}

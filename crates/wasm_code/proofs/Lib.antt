@@ -6,3 +6,5 @@ pub mod Completions
 pub mod LayingLaws
 pub mod BodyLaws
 pub mod LoopSteps
+pub mod PlacedLaws
+pub mod ItemSteps

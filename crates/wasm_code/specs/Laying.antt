@@ -1,5 +1,5 @@
 -- How the flat form of a body grows item by item: what opens a block learns its places where the block ends (WebAssembly Core 1.0, section 5.4.1).
-use Rattle.std.specs.Prelude.{ℕ, List, [], ◌∷◌, ◌++◌, length, slice_set, Option, Some, None}
+use Rattle.std.specs.Prelude.{ℕ, ◌<◌, List, [], ◌∷◌, ◌++◌, length, slice_set, Option, Some, None}
 use Rattle.wasm_ops.specs.declared.operators.Op.{Op}
 use Rattle.wasm_ops.specs.declared.operators.Op.TheVariants as op
 use Rattle.wasm_ops.specs.declared.types.ValType.{ValType}
@@ -12,6 +12,8 @@ use Rattle.wasm_code.specs.declared.items.Kind.TheVariants as kind
 use Rattle.wasm_code.specs.declared.blocks.Part.{Part}
 use Rattle.wasm_code.specs.declared.blocks.Part.TheVariants as part
 use Rattle.wasm_code.specs.declared.blocks.OpenBlock.{OpenBlock}
+use Rattle.wasm_code.specs.declared.blocks.Standing.{Standing}
+use Rattle.wasm_code.specs.declared.blocks.Standing.TheVariants.{Inside, Misplaced, Last}
 
 -- the operators so far, with 0 for a place that is not known yet, and the open blocks, the inmost first
 pub record Laid : Type 0 where
@@ -37,6 +39,39 @@ kind_of (part.Else turn) = kind.Else
 abbrev pub kinds_of : List OpenBlock → List Kind
 kinds_of [] = []
 kinds_of (block ∷ blocks) = kind_of block.part ∷ kinds_of blocks
+
+-- where an `else` stands that comes in this part of a block
+abbrev pub turning_of : Part → Standing
+turning_of part.Then = Inside
+turning_of part.Block = Misplaced
+turning_of part.Loop = Misplaced
+turning_of (part.Else turn) = Misplaced
+
+-- where an item stands, with these blocks open
+abbrev pub standing_of : Item → List Kind → Standing
+standing_of (item.Operator o) blocks = Inside
+standing_of (item.Opens w result) blocks = Inside
+standing_of item.Turn [] = Misplaced
+standing_of item.Turn (kind.Block ∷ blocks) = Misplaced
+standing_of item.Turn (kind.Loop ∷ blocks) = Misplaced
+standing_of item.Turn (kind.Then ∷ blocks) = Inside
+standing_of item.Turn (kind.Else ∷ blocks) = Misplaced
+standing_of item.Close [] = Last
+standing_of item.Close (inmost ∷ blocks) = Inside
+
+-- the operators that learn where a block ends stand among so many
+abbrev pub IsTurnPlaced : (count : ℕ) → Part → Type 0
+IsTurnPlaced count part.Block = Unit {0}
+IsTurnPlaced count part.Loop = Unit {0}
+IsTurnPlaced count part.Then = Unit {0}
+IsTurnPlaced count (part.Else turn) = turn < count
+
+abbrev pub IsPlaced : (count : ℕ) → OpenBlock → Type 0
+IsPlaced count block = (block.at < count) × IsTurnPlaced count block.part
+
+abbrev pub ArePlaced : (count : ℕ) → List OpenBlock → Type 0
+ArePlaced count [] = Unit {0}
+ArePlaced count (block ∷ blocks) = IsPlaced count block × ArePlaced count blocks
 
 -- the operators in which a block that ends at a place knows it
 abbrev pub filled : Part → Option ValType → (at end : ℕ) → List Op → List Op

@@ -30,3 +30,16 @@ pub struct OpenBlock {
     /// The place of the operator that opens it.
     pub(crate) at: u32,
 }
+
+/// Where an item stands.
+#[derive(Clone, Copy)]
+pub enum Standing {
+    /// More items follow it.
+    Inside,
+
+    /// It is an `else`, and no `if` that has none is the inmost block.
+    Misplaced,
+
+    /// It is the `end` of the body.
+    Last,
+}

@@ -8,13 +8,15 @@
 mod blocks;
 mod faults;
 mod forms;
+mod item_reader;
 mod items;
 mod labels;
 mod locals;
+mod laying;
 mod layouts;
 mod value_types;
 
-pub use blocks::{OpenBlock, Part};
+pub use blocks::{OpenBlock, Part, Standing};
 pub use faults::CodeFault;
 pub use forms::{Form, Indexed, Layout};
 pub use items::{Item, Kind, Opener};

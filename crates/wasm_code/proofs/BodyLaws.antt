@@ -1,5 +1,5 @@
 -- For each list of bytes one of the two holds in one way: they spell a body, or they are refused with a fault.
-use Rattle.std.proofs.Common.{◌≡◌, ◌⊎◌, inl, inr, ℕ, suc, zero, ◌-◌, ◌<◌, ◌≤◌, List, [], ◌∷◌, ◌++◌, length, Option, Some, None, Ok, Err, refl, ap, sym, ◌∙◌, subst, arith}
+use Rattle.std.proofs.Common.{◌≡◌, ◌⊎◌, inl, inr, ℕ, suc, zero, ◌<◌, List, [], ◌∷◌, ◌++◌, length, Some, None, Ok, Err, refl, ap, sym, ◌∙◌, subst, arith}
 use Rattle.wasm_ops.specs.declared.faults.Fault.{Fault}
 use Rattle.wasm_ops.specs.declared.modules.Body.{Body}
 use Rattle.wasm_ops.specs.declared.operators.Op.{Op}
@@ -13,9 +13,9 @@ use Rattle.wasm_code.specs.declared.items.Opener.TheVariants as opener
 use Rattle.wasm_code.specs.declared.items.Kind.{Kind}
 use Rattle.wasm_code.specs.declared.items.Kind.TheVariants as kind
 use Rattle.wasm_code.specs.Reading.{Read, fault_at}
-use Rattle.wasm_code.specs.Items.{Parsed, ReadsItem, RefusesItem, item_from}
+use Rattle.wasm_code.specs.Items.{Parsed, RefusesItem, item_from}
 use Rattle.wasm_code.specs.Locals.{ReadsLocals, RefusesLocals, locals_from}
-use Rattle.wasm_code.specs.Bodies.{items_of, open_behind, Place, Passes, AreCut, beginning, first_place, SpellsBody, Misplaced, Remains, RefusesNext, RefusesItems, RefusesBody}
+use Rattle.wasm_code.specs.Bodies.{items_of, open_behind, Place, AreCut, beginning, first_place, SpellsBody, Misplaced, Remains, RefusesNext, RefusesBody}
 use Rattle.wasm_code.specs.Laying.{Laid, with_items}
 use Rattle.wasm_code.proofs.Halts as halts
 use Rattle.wasm_code.proofs.Halts.{Halts, ReadsAt, one_item, no_item, same_place, refused_halts, closed_halts, one_halt, cut_more}
@@ -63,8 +63,8 @@ body_or_fault bytes body fault spells (inl refuses) = no_locals bytes body.local
 body_or_fault bytes body fault spells (inr refuses) =
     let ends = closed_halts spells.last body.targets spells.after spells.no_block spells.closed in
     let same =
-        (same_end bytes body.locals refuses.all spells.start refuses.start (items_of spells.sequence) refuses.items spells.last refuses.here
-            spells.locals refuses.locals spells.cut refuses.cut ends (refused_halts refuses.here fault refuses.refused)).1 in
+    (same_end bytes body.locals refuses.all spells.start refuses.start (items_of spells.sequence) refuses.items spells.last refuses.here
+    spells.locals refuses.locals spells.cut refuses.cut ends (refused_halts refuses.here fault refuses.refused)).1 in
     let P : Place → Type 0 = λ p. RefusesNext p fault in
     clashes spells.last body.targets spells.after fault spells.closed spells.whole (subst P (sym same) refuses.refused)
 
@@ -90,8 +90,8 @@ one_body bytes x y one two =
     let ends = closed_halts one.last x.targets one.after one.no_block one.closed in
     let also = closed_halts two.last y.targets two.after two.no_block two.closed in
     let same =
-        same_end bytes x.locals y.locals one.start two.start (items_of one.sequence) (items_of two.sequence) one.last two.last
-        one.locals two.locals one.cut two.cut ends also in
+    same_end bytes x.locals y.locals one.start two.start (items_of one.sequence) (items_of two.sequence) one.last two.last
+    one.locals two.locals one.cut two.cut ends also in
     let P : Place → Type 0 = λ p. ReadsAt p (item.Close, y.targets) two.after in
     let closes = subst P (sym same.1) two.closed in
     let parsed = (one_item one.last (item.Close, x.targets) (item.Close, y.targets) one.after two.after one.closed closes).0 in
@@ -131,8 +131,8 @@ one_refusal bytes f g (inl one) (inr two) = absurd (no_locals bytes two.all two.
 one_refusal bytes f g (inr one) (inl two) = absurd (no_locals bytes one.all one.start g one.locals two)
 one_refusal bytes f g (inr one) (inr two) =
     let same =
-        (same_end bytes one.all two.all one.start two.start one.items two.items one.here two.here one.locals two.locals one.cut two.cut
-            (refused_halts one.here f one.refused) (refused_halts two.here g two.refused)).1 in
+    (same_end bytes one.all two.all one.start two.start one.items two.items one.here two.here one.locals two.locals one.cut two.cut
+    (refused_halts one.here f one.refused) (refused_halts two.here g two.refused)).1 in
     let P : Place → Type 0 = λ p. RefusesNext p g in
     one_next one.here f g one.refused (subst P (sym same) two.refused)
 
@@ -170,9 +170,22 @@ left_over
     → ReadsAt here (item.Close, targets) after → after.left ≡ left → Leads start
 left_over start here items targets after [] cut none spelt e = inl (items, here, targets, after, cut, none, spelt, e)
 left_over start here items targets after (byte ∷ rest) cut none spelt e =
-    inr (items, here, fault_at 14 after.at, cut, inr (inr record {
-      targets = targets; after = after; byte = byte; rest = rest; no_block = none; spelt = spelt; more = e; told = refl;
-    }))
+    inr (
+      items,
+      here,
+      fault_at 14 after.at,
+      cut,
+      inr (inr record {
+        targets = targets;
+        after = after;
+        byte = byte;
+        rest = rest;
+        no_block = none;
+        spelt = spelt;
+        more = e;
+        told = refl;
+      }),
+    )
 
 as_turn : (here : Place) (p : Parsed) (after : Input) (passed : Item) → p.0 ≡ passed → ReadsAt here p after → ReadsAt here (passed, p.1) after
 as_turn here p after passed e reads = let P : Item → Type 0 = λ i. ReadsAt here (i, p.1) after in subst P e reads
@@ -187,9 +200,19 @@ walk_goes start here items p after further cut reads (inl stands) =
     (cut_more items p.0 start here next cut (record { spelt = reads; stands = stands.1 }))
     (item_shorter (length here.blocks) here.targets here.ahead p after reads)
 walk_goes start here items p after further cut reads (inr (inl turns)) =
-    inr (items, here, fault_at 9 here.ahead.at, cut, inr (inl record {
-      targets = p.1; after = after; spelt = as_turn here p after item.Turn turns.0 reads; no_if = turns.1; told = refl;
-    }))
+    inr (
+      items,
+      here,
+      fault_at 9 here.ahead.at,
+      cut,
+      inr (inl record {
+        targets = p.1;
+        after = after;
+        spelt = as_turn here p after item.Turn turns.0 reads;
+        no_if = turns.1;
+        told = refl;
+      }),
+    )
 walk_goes start here items p after further cut reads (inr (inr closes)) =
     left_over start here items p.1 after after.left cut closes.1 (as_turn here p after item.Close closes.0 reads) refl
 
@@ -217,10 +240,22 @@ either_of bytes locals start reads (inl leads) =
     let whole = sequence_of leads.0 (first_place start) leads.1 refl leads.4 leads.5 in
     let P : List Item → Type 0 = λ is. AreCut is (first_place start) leads.1 in
     let body : Body = record { locals = locals; ops = flat_body whole.0; targets = leads.2 } in
-    inl (body, record {
-      start = start; sequence = whole.0; last = leads.1; after = leads.3; locals = reads; cut = subst P whole.2 leads.4;
-      no_block = leads.5; closed = leads.6; whole = leads.7; nested = whole.1; laid_out = refl;
-    })
+    inl (
+      body,
+      record {
+        start = start;
+        sequence = whole.0;
+        last = leads.1;
+        after = leads.3;
+        locals = reads;
+        cut = subst P whole.2 leads.4;
+        no_block = leads.5;
+        closed = leads.6;
+        whole = leads.7;
+        nested = whole.1;
+        laid_out = refl;
+      },
+    )
 either_of bytes locals start reads (inr leads) =
     inr (leads.2, inr record { all = locals; start = start; items = leads.0; here = leads.1; locals = reads; cut = leads.3; refused = leads.4 })
 

@@ -1,5 +1,5 @@
 -- Items behind which no block is open are those of a structured sequence.
-use Rattle.std.proofs.Common.{◌≡◌, ◌⊎◌, inl, inr, ℕ, List, [], ◌∷◌, ◌++◌, Option, Some, None, refl, ap, sym, ◌∙◌, subst, append_assoc}
+use Rattle.std.proofs.Common.{◌≡◌, ◌⊎◌, inl, inr, List, [], ◌∷◌, ◌++◌, Option, Some, refl, ap, sym, ◌∙◌, subst, append_assoc}
 use Rattle.wasm_ops.specs.declared.operators.Op.{Op}
 use Rattle.wasm_ops.specs.declared.types.ValType.{ValType}
 use Rattle.wasm_ops.specs.Sequence.{Sequence, Done, Plain, InBlock, InLoop, InIf, InIfElse, IsPlain, IsNested}
@@ -103,7 +103,7 @@ whole_if_else result blocks inner other middle rest items is also e f completes 
     let second : List Item = items_of other ++ item.Close ∷ [] in
     let ends : (items_of inner ++ item.Turn ∷ second) ++ rest ≡ items_of inner ++ item.Turn ∷ (items_of other ++ item.Close ∷ rest) = simp append_assoc in
     let regrouped : items_of inner ++ item.Turn ∷ (items_of other ++ item.Close ∷ rest) ≡ items_of inner ++ item.Turn ∷ middle =
-        ap (λ (m : List Item). items_of inner ++ item.Turn ∷ m) (sym f) in
+    ap (λ (m : List Item). items_of inner ++ item.Turn ∷ m) (sym f) in
     let same = ap (λ (m : List Item). opens ∷ m) (ends ∙ regrouped ∙ sym e) in
     subst P same (fronted blocks (opens ∷ (items_of inner ++ item.Turn ∷ second)) rest (if_else_front result inner other is also) completes)
 

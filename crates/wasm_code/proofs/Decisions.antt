@@ -1,13 +1,12 @@
 -- A reader that decides a form: it answers what is spelt, and refuses with the fault, and both both ways.
-use Rattle.std.proofs.Common.{◌≡◌, ◌≢◌, ◌⊎◌, inl, inr, ℕ, ◌+◌, ◌<◌, ◌≤◌, Bool, true, false, ◌==◌, List, [], ◌∷◌, Option, Some, None, Result, Ok, Err, refl, ap, sym, ◌∙◌, arith}
+use Rattle.std.proofs.Common.{◌≡◌, ◌⊎◌, inl, inr, ℕ, ◌+◌, ◌<◌, ◌≤◌, List, [], ◌∷◌, Ok, Err, refl, ap, sym, ◌∙◌}
 use Rattle.std.proofs.lemmas.Bool.{cases_lt, lt-ltb, le-ltb}
 use Rattle.wasm_ops.specs.declared.faults.Fault.{Fault}
 use Rattle.wasm_ops.specs.declared.numbers.Sign.{Sign}
 use Rattle.wasm_ops.specs.Input.{Input, cut_short, byte_of, byte_from}
 use Rattle.wasm_ops.specs.NumberInput.{ReadsNumber, RefusesNumber, number_from}
 use Rattle.wasm_ops.proofs.InputLaws.{taken}
-use Rattle.wasm_code.specs.Reading.{Read, and_then, as_part, within, fault_at, ReadsByte, LacksByte}
-use Rattle.wasm_code.specs.Types.{typed, no_type}
+use Rattle.wasm_code.specs.Reading.{Read, and_then, as_part, within, ReadsByte, LacksByte}
 
 pub record Decides (A : Type 0) (read : Read A) (Reads : A → Input → Type 0) (Refuses : Fault → Type 0) : Type 0 where
   pub found : (x : A) (after : Input) → read ≡ Ok (x, after) → Reads x after

@@ -1,5 +1,5 @@
 -- Items are cut in one way, and from one place on there is one place where no item goes on.
-use Rattle.std.proofs.Common.{◌≡◌, ◌⊎◌, inl, inr, ℕ, List, [], ◌∷◌, ◌++◌, length, Option, Some, None, Ok, Err, refl, ap, sym, ◌∙◌, subst}
+use Rattle.std.proofs.Common.{◌≡◌, inl, inr, ℕ, List, [], ◌∷◌, ◌++◌, length, Some, refl, ap, sym, ◌∙◌, subst}
 use Rattle.wasm_ops.specs.declared.faults.Fault.{Fault}
 use Rattle.wasm_ops.specs.Input.{Input}
 use Rattle.wasm_code.specs.declared.items.Item.{Item}
@@ -7,7 +7,7 @@ use Rattle.wasm_code.specs.declared.items.Item.TheVariants as item
 use Rattle.wasm_code.specs.declared.items.Kind.{Kind}
 use Rattle.wasm_code.specs.Reading.{Read}
 use Rattle.wasm_code.specs.Items.{Parsed, ReadsItem, RefusesItem, item_from}
-use Rattle.wasm_code.specs.Bodies.{open_behind, Place, Passes, AreCut, Misplaced, Remains, RefusesNext}
+use Rattle.wasm_code.specs.Bodies.{open_behind, Place, Passes, AreCut, RefusesNext}
 use Rattle.wasm_code.proofs.Decisions.{Decides, read_parts}
 use Rattle.wasm_code.proofs.ItemLaws.{item_decides}
 

@@ -1,7 +1,8 @@
 -- Each item takes a byte at least, and an operator of its own opens no block and closes none.
-use Rattle.std.proofs.Common.{◌≡◌, ℕ, suc, zero, ◌+◌, ◌<◌, ◌≤◌, Bool, true, false, ◌==◌, nat_lt, if◌then◌else◌, List, [], ◌∷◌, ◌++◌, length, Option, Some, None, refl, ap, sym, ◌∙◌, subst, arith, rules}
+use Rattle.std.proofs.Common.{◌≡◌, ℕ, suc, zero, ◌+◌, ◌<◌, ◌≤◌, Bool, true, false, ◌==◌, nat_lt, if◌then◌else◌, List, [], ◌∷◌, ◌++◌, length, refl, ap, sym, subst, arith, rules, length-append}
 use Rattle.wasm_ops.specs.declared.operators.Op.{Op}
 use Rattle.wasm_ops.specs.declared.operators.Op.TheVariants as op
+use Rattle.wasm_ops.specs.declared.types.ValType.{ValType}
 use Rattle.wasm_ops.specs.declared.numbers.Sign.{Sign}
 use Rattle.wasm_ops.specs.declared.numbers.Sign.TheVariants.{Unsigned, Signed}
 use Rattle.wasm_ops.specs.Input.{Input}
@@ -9,7 +10,6 @@ use Rattle.wasm_ops.specs.NumberInput.{ReadsNumber}
 use Rattle.wasm_ops.specs.IntOps.{is_int_op}
 use Rattle.wasm_ops.specs.Sequence.{IsPlain}
 use Rattle.wasm_ops.proofs.InputLaws.{spelt-shorter}
-use Rattle.wasm_code.specs.declared.items.Item.{Item}
 use Rattle.wasm_code.specs.declared.items.Item.TheVariants as item
 use Rattle.wasm_code.specs.declared.forms.Form.{Form}
 use Rattle.wasm_code.specs.declared.forms.Form.TheVariants.{Operator, Labels, Opens, Turn, Close}
@@ -20,7 +20,8 @@ use Rattle.wasm_code.specs.declared.forms.Indexed.TheVariants as indexed
 use Rattle.wasm_code.specs.Forms.{Rows, control_rows, variable_rows, load_rows, store_rows, look_up, row_of, takes_one, int_op, is_float_op, form_of, with_index}
 use Rattle.wasm_code.specs.Reading.{ReadsByte}
 use Rattle.wasm_code.specs.Layouts.{ReadsZero, ReadsIndex, ReadsAddress, ReadsLayout}
-use Rattle.wasm_code.specs.Items.{Parsed, ReadsLabels, ReadsForm, ReadsItem}
+use Rattle.wasm_code.specs.Locals.{ReadsGroup, ReadsGroups, ReadsLocals}
+use Rattle.wasm_code.specs.Items.{Parsed, table, ReadsLabels, ReadsForm, ReadsItem}
 
 byte_shorter : (before : Input) (byte : ℕ) (after : Input) → ReadsByte before byte after → length after.left < length before.left
 byte_shorter before byte after reads = let lengths = ap (λ (xs : List ℕ). length xs) reads.next in omega arith
@@ -151,7 +152,7 @@ form_plain byte =
     let float : Form = Operator Float in
     let whole : Form = Operator (Bare (int_op byte)) in
     let floats : FormIsPlain (if is_float_op byte then float else row_of byte) =
-        chosen (is_float_op byte) float (row_of byte) (let none : Unit {0} = tt in none) (row_plain byte) in
+    chosen (is_float_op byte) float (row_of byte) (let none : Unit {0} = tt in none) (row_plain byte) in
     chosen (is_int_op byte) whole (if is_float_op byte then float else row_of byte) (int_op_plain byte (takes_one byte)) floats
 
 with_index_plain : (kind : Indexed) (n : ℕ) → IsPlain (with_index kind n)
@@ -180,7 +181,6 @@ layout_plain IndirectCall before operator after is reads = same_plain operator (
 layout_plain Float before operator after is reads = absurd reads
 layout_plain Unknown before operator after is reads = absurd reads
 
-
 form_operator
     : (form : Form) (depth : ℕ) (targets : List ℕ) (before : Input) (parsed : Parsed) (after : Input) (o : Op)
     → FormIsPlain form → ReadsForm form depth targets before parsed after → parsed.0 ≡ item.Operator o → IsPlain o
@@ -204,3 +204,70 @@ pub item_plain
     → IsPlain o
 item_plain depth targets before o all after reads =
     form_operator (form_of reads.0) depth targets reads.1 (item.Operator o, all) after o (form_plain reads.0) reads.3 refl
+
+-- Each new label took a byte at least.
+
+labels_few
+    : (count : ℕ) (targets : List ℕ) (before : Input) (all : List ℕ) (after : Input) → ReadsLabels count targets before all after
+    → length all + length after.left ≤ length targets + length before.left
+labels_few zero targets before all after reads =
+    let same = same_left after before reads.1 in
+    let lengths = ap (λ (xs : List ℕ). length xs) reads.0 in omega arith
+labels_few (suc count) targets before all after reads =
+    let shorter = number_shorter Unsigned 32 before reads.0 reads.1 reads.2 in
+    let further = labels_few count (targets ++ reads.0 ∷ []) reads.1 all after reads.3 in
+    omega (arith, length-append targets (reads.0 ∷ []))
+
+same_targets : (p q : Parsed) → p ≡ q → length p.1 ≡ length q.1
+same_targets p q e = ap (λ (r : Parsed). length r.1) e
+
+form_few
+    : (form : Form) (depth : ℕ) (targets : List ℕ) (before : Input) (parsed : Parsed) (after : Input) → ReadsForm form depth targets before parsed after
+    → length parsed.1 + length after.left ≤ length targets + length before.left
+form_few (Operator layout) depth targets before parsed after reads =
+    let shorter = form_shorter (Operator layout) depth targets before parsed after reads in
+    let same = same_targets parsed (item.Operator reads.0, targets) reads.2 in omega arith
+form_few Labels depth targets before parsed after reads =
+    let shorter = number_shorter Unsigned 32 before reads.0 reads.1 reads.2 in
+    let further = labels_few (suc reads.0) targets reads.1 reads.3.1.0 after reads.3.1.1 in
+    let same = same_targets parsed (table targets reads.0 reads.3.1.0) reads.3.1.2 in omega arith
+form_few (Opens opener) depth targets before parsed after reads =
+    let shorter = form_shorter (Opens opener) depth targets before parsed after reads in
+    let same = same_targets parsed (item.Opens opener reads.1.0, targets) reads.1.2 in omega arith
+form_few Turn depth targets before parsed after reads =
+    let shorter = form_shorter Turn depth targets before parsed after reads in
+    let same = same_targets parsed (item.Turn, targets) reads.0 in omega arith
+form_few Close depth targets before parsed after reads =
+    let shorter = form_shorter Close depth targets before parsed after reads in
+    let same = same_targets parsed (item.Close, targets) reads.0 in omega arith
+
+pub item_few
+    : (depth : ℕ) (targets : List ℕ) (before : Input) (parsed : Parsed) (after : Input) → ReadsItem depth targets before parsed after
+    → length parsed.1 + length after.left ≤ length targets + length before.left
+item_few depth targets before parsed after reads =
+    let shorter = byte_shorter before reads.0 reads.1 reads.2 in
+    let further = form_few (form_of reads.0) depth targets reads.1 parsed after reads.3 in omega arith
+
+-- The locals are a part of the bytes.
+
+group_shorter
+    : (locals : List ValType) (before : Input) (more : List ValType) (after : Input) → ReadsGroup locals before more after
+    → length after.left ≤ length before.left
+group_shorter locals before more after reads =
+    let shorter = number_shorter Unsigned 32 before reads.0 reads.1 reads.2 in
+    let spelt = reads.3.1.1 in
+    let byte = byte_shorter reads.1 spelt.0 spelt.1 spelt.2 in
+    let same = same_left after spelt.1 spelt.3.1 in omega arith
+
+groups_shorter
+    : (groups : ℕ) (locals : List ValType) (before : Input) (all : List ValType) (after : Input) → ReadsGroups groups locals before all after
+    → length after.left ≤ length before.left
+groups_shorter zero locals before all after reads = let same = same_left after before reads.1 in omega arith
+groups_shorter (suc groups) locals before all after reads =
+    let shorter = group_shorter locals before reads.0 reads.1 reads.2 in
+    let further = groups_shorter groups reads.0 reads.1 all after reads.3 in omega arith
+
+pub locals_shorter : (before : Input) (all : List ValType) (after : Input) → ReadsLocals before all after → length after.left ≤ length before.left
+locals_shorter before all after reads =
+    let shorter = number_shorter Unsigned 32 before reads.0 reads.1 reads.2 in
+    let further = groups_shorter reads.0 [] reads.1 all after reads.3 in omega arith

@@ -1,23 +1,19 @@
 -- Items and locals are decided: each is read exactly where it is spelt, and refused exactly where it is refused.
-use Rattle.std.proofs.Common.{◌≡◌, ◌≢◌, ◌⊎◌, inl, inr, ℕ, suc, zero, ◌+◌, ◌<◌, ◌≤◌, Bool, true, false, ◌==◌, if◌then◌else◌, List, [], ◌∷◌, ◌++◌, length, replicate, Option, Some, None, Result, Ok, Err, refl, ap, sym, ◌∙◌, arith}
+use Rattle.std.proofs.Common.{◌≡◌, ◌≢◌, ◌⊎◌, inl, inr, ℕ, suc, zero, ◌+◌, ◌<◌, ◌≤◌, List, [], ◌∷◌, ◌++◌, length, replicate, Option, Some, None, Ok, Err, refl, ap, sym, ◌∙◌, arith}
 use Rattle.std.proofs.lemmas.Bool.{cases_eq, eq-eqb, ne_eqb}
-use Rattle.wasm_ops.specs.declared.faults.Fault.{Fault}
 use Rattle.wasm_ops.specs.declared.operators.Op.{Op}
 use Rattle.wasm_ops.specs.declared.operators.Op.TheVariants as op
 use Rattle.wasm_ops.specs.declared.types.ValType.{ValType}
-use Rattle.wasm_ops.specs.declared.numbers.Sign.{Sign}
 use Rattle.wasm_ops.specs.declared.numbers.Sign.TheVariants.{Unsigned, Signed}
 use Rattle.wasm_ops.specs.Input.{Input, byte_from}
 use Rattle.wasm_ops.specs.NumberInput.{ReadsNumber, RefusesNumber, number_from}
-use Rattle.wasm_code.specs.declared.items.Item.{Item}
 use Rattle.wasm_code.specs.declared.items.Item.TheVariants as item
-use Rattle.wasm_code.specs.declared.items.Opener.{Opener}
 use Rattle.wasm_code.specs.declared.forms.Form.{Form}
 use Rattle.wasm_code.specs.declared.forms.Form.TheVariants.{Operator, Labels, Opens, Turn, Close}
 use Rattle.wasm_code.specs.declared.forms.Layout.{Layout}
 use Rattle.wasm_code.specs.declared.forms.Layout.TheVariants.{Bare, Index, Load, Store, Reserved, Word, Long, IndirectCall, Float, Unknown}
 use Rattle.wasm_code.specs.Forms.{form_of, with_index}
-use Rattle.wasm_code.specs.Reading.{Read, and_then, as_part, within, fault_at, ReadsByte, LacksByte}
+use Rattle.wasm_code.specs.Reading.{as_part, within, fault_at, ReadsByte, LacksByte}
 use Rattle.wasm_code.specs.Types.{type_of, result_of, no_type, typed, as_from, ReadsAs, RefusesAs, ReadsType, RefusesType, type_from, ReadsBlockType, RefusesBlockType, block_type_from}
 use Rattle.wasm_code.specs.Layouts.{ReadsZero, RefusesZero, ReadsIndex, ReadsAddress, RefusesAddress, ReadsLayout, RefusesLayout, zeroed, zero_from, index_from, address_from, layout_from}
 use Rattle.wasm_code.specs.Items.{most_targets, most_blocks, Parsed, ReadsLabels, RefusesLabels, table, ReadsForm, RefusesForm, ReadsItem, RefusesItem, labels_from, table_from, form_from, item_from}
@@ -145,10 +141,10 @@ table_decides depth targets at before =
     (λ count there fault. ((most_targets < count) × (fault ≡ fault_at 12 before.at)) ⊎ ((count ≤ most_targets) × RefusesLabels (suc count) targets there fault))
     (u32_decides before)
     (λ count there. within_decides most_targets count (fault_at 12 before.at) (as_part (table targets count) (labels_from (suc count) targets there))
-        (λ parsed after. (all : List ℕ) × ReadsLabels (suc count) targets there all after × (parsed ≡ table targets count all))
-        (RefusesLabels (suc count) targets there)
-        (as_part_decides (table targets count) (labels_from (suc count) targets there) (ReadsLabels (suc count) targets there) (RefusesLabels (suc count) targets there)
-            (labels_decides (suc count) targets there)))
+    (λ parsed after. (all : List ℕ) × ReadsLabels (suc count) targets there all after × (parsed ≡ table targets count all))
+    (RefusesLabels (suc count) targets there)
+    (as_part_decides (table targets count) (labels_from (suc count) targets there) (ReadsLabels (suc count) targets there) (RefusesLabels (suc count) targets there)
+    (labels_decides (suc count) targets there)))
 
 form_decides
     : (form : Form) (depth : ℕ) (targets : List ℕ) (at : ℕ) (before : Input)
@@ -163,7 +159,7 @@ form_decides (Opens opener) depth targets at before =
     (λ parsed after. (result : Option ValType) × ReadsBlockType before result after × (parsed ≡ (item.Opens opener result, targets)))
     (RefusesBlockType before)
     (as_part_decides (λ (result : Option ValType). (item.Opens opener result, targets)) (block_type_from before) (ReadsBlockType before) (RefusesBlockType before)
-        (as_decides result_of before))
+    (as_decides result_of before))
 form_decides Turn depth targets at before = stands_decides (item.Turn, targets) before
 form_decides Close depth targets at before = stands_decides (item.Close, targets) before
 
@@ -190,9 +186,9 @@ group_decides locals before =
     (λ count there fault. ((most_locals < length locals + count) × (fault ≡ fault_at 11 before.at)) ⊎ ((length locals + count ≤ most_locals) × RefusesType there fault))
     (u32_decides before)
     (λ count there. within_decides most_locals (length locals + count) (fault_at 11 before.at) (as_part (written_out locals count) (type_from there))
-        (λ more after. (value : ValType) × ReadsType there value after × (more ≡ locals ++ replicate count value))
-        (RefusesType there)
-        (as_part_decides (written_out locals count) (type_from there) (ReadsType there) (RefusesType there) (as_decides type_of there)))
+    (λ more after. (value : ValType) × ReadsType there value after × (more ≡ locals ++ replicate count value))
+    (RefusesType there)
+    (as_part_decides (written_out locals count) (type_from there) (ReadsType there) (RefusesType there) (as_decides type_of there)))
 
 groups_decides
     : (groups : ℕ) (locals : List ValType) (before : Input)

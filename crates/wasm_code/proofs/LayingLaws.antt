@@ -14,7 +14,7 @@ use Rattle.wasm_code.specs.declared.items.Opener.TheVariants as opener
 use Rattle.wasm_code.specs.declared.blocks.Part.TheVariants as part
 use Rattle.wasm_code.specs.declared.blocks.OpenBlock.{OpenBlock}
 use Rattle.wasm_code.specs.Bodies.{items_of}
-use Rattle.wasm_code.specs.Laying.{Laid, opening, first_part, filled, turned, closed, with_item, with_items}
+use Rattle.wasm_code.specs.Laying.{Laid, opening, first_part, filled, with_item, with_items}
 
 pub with_items-append : (is js : List Item) (laid : Laid) → with_items (is ++ js) laid ≡ with_items js (with_items is laid)
 with_items-append [] js laid = refl
@@ -70,12 +70,12 @@ held_laid w result body rest is also ops blocks =
     let first = laid_then body (n + 1) opened (block ∷ blocks) (item.Close ∷ items_of rest) is (one_longer ops (opening w result)) in
     let long : length full ≡ end = omega (arith, length-append opened inner, one_longer ops (opening w result), length-flat body (n + 1)) in
     let known : filled (first_part w) result n (length full) full ≡ ops ++ closing w result end ∷ inner =
-        filled_closing w result n (length full) full
-        ∙ ap (λ (k : ℕ). slice_set full n (closing w result k)) long
-        ∙ put ops inner (opening w result) (closing w result end) in
+    filled_closing w result n (length full) full
+    ∙ ap (λ (k : ℕ). slice_set full n (closing w result k)) long
+    ∙ put ops inner (opening w result) (closing w result end) in
     let shut : List Op = (ops ++ closing w result end ∷ inner) ++ op.End ∷ [] in
     let longer : length shut ≡ n + 2 + size body =
-        omega (arith, length-append (ops ++ closing w result end ∷ inner) (op.End ∷ []), length-append ops (closing w result end ∷ inner), length-flat body (n + 1)) in
+    omega (arith, length-append (ops ++ closing w result end ∷ inner) (op.End ∷ []), length-append ops (closing w result end ∷ inner), length-flat body (n + 1)) in
     let second = ap (λ (front : List Op). with_items (items_of rest) (laid_as (front ++ op.End ∷ []) blocks)) known in
     let behind = also shut blocks in
     let placed = ap (λ (k : ℕ). laid_as (shut ++ flat k rest) blocks) longer in
@@ -108,17 +108,17 @@ choice_laid result inner other rest is turns also ops blocks =
     let full_long : length full ≡ end = omega (arith, length-append turned_ops two, length-flat other (n + 2 + size inner)) in
     let grouped : full ≡ (ops ++ opens ∷ []) ++ (one ++ op.Else 0 ∷ two) = simp append_assoc in
     let knows : slice_set full n whole ≡ ops ++ whole ∷ (one ++ op.Else 0 ∷ two) =
-        ap (λ (all : List Op). slice_set all n whole) grouped ∙ put ops (one ++ op.Else 0 ∷ two) opens whole in
+    ap (λ (all : List Op). slice_set all n whole) grouped ∙ put ops (one ++ op.Else 0 ∷ two) opens whole in
     let front : List Op = ops ++ whole ∷ one in
     let front_long : length front ≡ turn = omega (arith, length-append ops (whole ∷ one), length-flat inner (n + 1)) in
     let apart : ops ++ whole ∷ (one ++ op.Else 0 ∷ two) ≡ front ++ op.Else 0 ∷ two = simp append_assoc in
     let tells : slice_set (slice_set full n whole) turn (op.Else end) ≡ front ++ op.Else end ∷ two =
-        ap (λ (all : List Op). slice_set all turn (op.Else end)) (knows ∙ apart) ∙ set_at front (op.Else 0) two (op.Else end) turn front_long in
+    ap (λ (all : List Op). slice_set all turn (op.Else end)) (knows ∙ apart) ∙ set_at front (op.Else 0) two (op.Else end) turn front_long in
     let known : filled (part.Else turn) result n (length full) full ≡ front ++ op.Else end ∷ two =
-        ap (λ (k : ℕ). slice_set (slice_set full n (op.If result (Some turn) k)) turn (op.Else k)) full_long ∙ tells in
+    ap (λ (k : ℕ). slice_set (slice_set full n (op.If result (Some turn) k)) turn (op.Else k)) full_long ∙ tells in
     let shut : List Op = (front ++ op.Else end ∷ two) ++ op.End ∷ [] in
     let longer : length shut ≡ n + 3 + size inner + size other =
-        omega (arith, length-append (front ++ op.Else end ∷ two) (op.End ∷ []), length-append front (op.Else end ∷ two), length-flat other (n + 2 + size inner)) in
+    omega (arith, length-append (front ++ op.Else end ∷ two) (op.End ∷ []), length-append front (op.Else end ∷ two), length-flat other (n + 2 + size inner)) in
     let third = ap (λ (all : List Op). with_items (items_of rest) (laid_as (all ++ op.End ∷ []) blocks)) known in
     let behind = also shut blocks in
     let placed = ap (λ (k : ℕ). laid_as (shut ++ flat k rest) blocks) longer in

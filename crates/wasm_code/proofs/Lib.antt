@@ -8,3 +8,5 @@ pub mod BodyLaws
 pub mod LoopSteps
 pub mod PlacedLaws
 pub mod ItemSteps
+pub mod OperatorSteps
+pub mod BodyAnswers

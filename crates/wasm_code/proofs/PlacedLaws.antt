@@ -1,5 +1,5 @@
 -- The operators that learn where a block ends stay where they are while more are laid out.
-use Rattle.std.proofs.Common.{◌≡◌, ℕ, ◌+◌, ◌<◌, ◌≤◌, List, [], ◌∷◌, ◌++◌, length, reverse, Option, refl, ap, sym, ◌∙◌, subst, length-append, arith}
+use Rattle.std.proofs.Common.{◌≡◌, ℕ, ◌+◌, ◌<◌, ◌≤◌, List, [], ◌∷◌, ◌++◌, length, reverse, Option, ap, sym, ◌∙◌, subst, length-append, arith}
 use Rattle.std.proofs.lemmas.List.{length-set, reverse-append}
 use Rattle.wasm_ops.specs.declared.operators.Op.{Op}
 use Rattle.wasm_ops.specs.declared.types.ValType.{ValType}

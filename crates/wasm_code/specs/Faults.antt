@@ -23,3 +23,15 @@ Gives view (Err fault) read = IsFaultOf fault read
 abbrev pub IsAmong : CodeFault → (Fault → Type 0) → Type 0
 IsAmong (Bytes fault) Refuses = Refuses fault
 IsAmong NoMemory Refuses = Unit {0}
+
+-- memory ran out, or this value is answered
+abbrev pub GivesValue : {A : Type 0} → Result A CodeFault → A → Type 0
+GivesValue (Ok y) x = y ≡ x
+GivesValue (Err (Bytes fault)) x = ⊥
+GivesValue (Err NoMemory) x = Unit {0}
+
+-- memory ran out, or this fault is answered
+abbrev pub GivesFault : {A : Type 0} → Result A CodeFault → Fault → Type 0
+GivesFault (Ok x) fault = ⊥
+GivesFault (Err (Bytes other)) fault = other ≡ fault
+GivesFault (Err NoMemory) fault = Unit {0}

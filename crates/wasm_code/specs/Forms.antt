@@ -9,7 +9,6 @@ use Rattle.wasm_ops.specs.IntOps.{is_int_op, is_between}
 use Rattle.wasm_code.specs.declared.items.Opener.TheVariants as opener
 use Rattle.wasm_code.specs.declared.forms.Form.{Form}
 use Rattle.wasm_code.specs.declared.forms.Form.TheVariants.{Operator, Labels, Opens, Turn, Close}
-use Rattle.wasm_code.specs.declared.forms.Layout.{Layout}
 use Rattle.wasm_code.specs.declared.forms.Layout.TheVariants.{Bare, Index, Load, Store, Reserved, Word, Long, IndirectCall, Float, Unknown}
 use Rattle.wasm_code.specs.declared.forms.Indexed.{Indexed}
 use Rattle.wasm_code.specs.declared.forms.Indexed.TheVariants as indexed

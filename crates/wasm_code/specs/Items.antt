@@ -1,5 +1,5 @@
 -- How one item of a body is spelt, and what refuses it (WebAssembly Core 1.0, section 5.4).
-use Rattle.std.specs.Prelude.{◌≡◌, ◌⊎◌, ℕ, suc, zero, ◌+◌, ◌<◌, ◌≤◌, List, [], ◌∷◌, ◌++◌, length, Ok, Err}
+use Rattle.std.specs.Prelude.{◌≡◌, ◌⊎◌, ℕ, suc, zero, ◌+◌, ◌<◌, ◌≤◌, List, [], ◌∷◌, ◌++◌, length, Ok}
 use Rattle.wasm_ops.specs.declared.faults.Fault.{Fault}
 use Rattle.wasm_ops.specs.declared.operators.Op.{Op}
 use Rattle.wasm_ops.specs.declared.operators.Op.TheVariants as op
@@ -90,7 +90,7 @@ labels_from (suc count) targets before =
 abbrev pub table_from : (targets : List ℕ) → Input → Read Parsed
 table_from targets before =
     and_then (number_from Unsigned 32 before) (λ count there.
-        within most_targets count (fault_at 12 before.at) (as_part (table targets count) (labels_from (suc count) targets there)))
+    within most_targets count (fault_at 12 before.at) (as_part (table targets count) (labels_from (suc count) targets there)))
 
 abbrev pub form_from : Form → (depth : ℕ) (targets : List ℕ) (at : ℕ) → Input → Read Parsed
 form_from (Operator layout) depth targets at before = as_part (λ operator. (item.Operator operator, targets)) (layout_from layout at before)

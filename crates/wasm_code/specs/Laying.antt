@@ -99,3 +99,7 @@ with_item item.Close laid = closed laid.ops laid.blocks
 abbrev pub with_items : List Item → Laid → Laid
 with_items [] laid = laid
 with_items (passed ∷ items) laid = with_items items (with_item passed laid)
+
+-- before the first item
+abbrev pub nothing : Laid
+nothing = record { ops = []; blocks = [] }

@@ -5,5 +5,6 @@ pub mod Items
 pub mod Laying
 pub mod Layouts
 pub mod Locals
+pub mod Operators
 pub mod Reading
 pub mod Types

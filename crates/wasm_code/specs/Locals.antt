@@ -57,7 +57,7 @@ written_out locals count value = locals ++ replicate count value
 abbrev pub group_from : (locals : List ValType) → Input → Read (List ValType)
 group_from locals before =
     and_then (number_from Unsigned 32 before) (λ count there.
-        within most_locals (length locals + count) (fault_at 11 before.at) (as_part (written_out locals count) (type_from there)))
+    within most_locals (length locals + count) (fault_at 11 before.at) (as_part (written_out locals count) (type_from there)))
 
 abbrev pub groups_from : (groups : ℕ) (locals : List ValType) → Input → Read (List ValType)
 groups_from zero locals before = Ok (locals, before)

@@ -1,5 +1,5 @@
 -- Reading one thing behind another, and bytes at a cursor (WebAssembly Core 1.0, section 5.1).
-use Rattle.std.specs.Prelude.{◌≡◌, ℕ, ◌+◌, nat_lt, if◌then◌else◌, List, [], ◌∷◌, Result, Ok, Err}
+use Rattle.std.specs.Prelude.{◌≡◌, ℕ, ◌+◌, nat_lt, if◌then◌else◌, [], ◌∷◌, Result, Ok, Err}
 use Rattle.wasm_ops.specs.declared.faults.Fault.{Fault}
 use Rattle.wasm_ops.specs.Input.{Input, cut_short}
 

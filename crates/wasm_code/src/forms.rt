@@ -2,9 +2,8 @@
 ghost use Rattle.std.specs.Prelude.{◌≡◌, false};
 ghost use Rattle.wasm_code.specs.Forms.{is_float_op, form_of, int_op, row_of, look_up, with_index, control_rows, variable_rows, load_rows, store_rows};
 
-use wasm_ops::{Access, IntOp, Op, ValType};
-
 use crate::items::Opener;
+use wasm_ops::{Access, IntOp, Op, ValType};
 
 /// What a byte begins in the place of an operator.
 #[derive(Clone, Copy)]

@@ -2,11 +2,10 @@
 ghost use Rattle.std.specs.Prelude.{◌≡◌, ◌^◌, ◌<◌, [], length, IfOk, OnOk};
 ghost use Rattle.wasm_code.specs.Laying.{ArePlaced, IsPlaced, kinds_of, filled, first_part, opening, turning_of, standing_of, with_item};
 
-use std::alloc::{AllocError, Global};
-use std::marker::Model;
-
 use crate::blocks::{OpenBlock, Part, Standing};
 use crate::items::{Item, Opener};
+use std::alloc::{AllocError, Global};
+use std::marker::Model;
 use wasm_ops::{Op, ValType};
 
 /// The operators of the items so far, with 0 for a place that is not known yet, and the open blocks.

@@ -6,17 +6,20 @@
 #![tactic(auto)]
 
 mod blocks;
+mod bodies;
 mod faults;
 mod forms;
 mod item_reader;
 mod items;
 mod labels;
-mod locals;
+pub mod laws;
 mod laying;
 mod layouts;
+mod locals;
 mod value_types;
 
 pub use blocks::{OpenBlock, Part, Standing};
+pub use bodies::read_body;
 pub use faults::CodeFault;
 pub use forms::{Form, Indexed, Layout};
 pub use items::{Item, Kind, Opener};

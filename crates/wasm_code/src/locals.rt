@@ -3,10 +3,9 @@ ghost use Rattle.std.specs.Prelude.{◌≡◌, ◌≤◌, length, OnOk};
 ghost use Rattle.wasm_code.specs.Faults.{Gives};
 ghost use Rattle.wasm_code.specs.Locals.{group_from, groups_from, locals_from};
 
-use std::alloc::Global;
-
 use crate::faults::CodeFault;
 use crate::value_types::value_type;
+use std::alloc::Global;
 use wasm_ops::{Cursor, Fault, ValType};
 
 // The most locals, all groups counted.
@@ -23,7 +22,11 @@ pub(crate) fn read_locals(alloc: Global, cursor: &mut Cursor<'_>) -> Result<Vec<
 }
 
 // So many groups, which are added to the locals.
-fn read_groups(groups: u32, locals: &mut Vec<ValType>, cursor: &mut Cursor<'_>) -> Result<(), CodeFault>
+fn read_groups(
+    groups: u32,
+    locals: &mut Vec<ValType>,
+    cursor: &mut Cursor<'_>,
+) -> Result<(), CodeFault>
     requires few { length locals.old.items ≤ MOST_LOCALS }
     ensures { Gives (λ _. (locals.new.items, cursor.new)) result (groups_from groups locals.old.items cursor.old) }
 {

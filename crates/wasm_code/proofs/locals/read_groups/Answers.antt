@@ -1,5 +1,5 @@
 -- A group is read, or refused, as the next of those that are left.
-use Rattle.std.proofs.Common.{◌≡◌, suc, ◌+◌, ◌-◌, ◌∙◌, sym, arith, Err}
+use Rattle.std.proofs.Common.{◌≡◌, suc, ◌+◌, ◌-◌, ◌∙◌, arith}
 use Rattle.std.proofs.lemmas.Result.{err_from_is_err_and}
 use Rattle.wasm_code.proofs.LoopSteps.{group_goes, groups_refused}
 use Rattle.wasm_code.proofs.locals.read_groups.Goals as goal

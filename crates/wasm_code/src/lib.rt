@@ -23,3 +23,6 @@ pub use bodies::read_body;
 pub use faults::CodeFault;
 pub use forms::{Form, Indexed, Layout};
 pub use items::{Item, Kind, Opener};
+
+#[cfg(test)]
+mod tests;

@@ -48,7 +48,7 @@ and_then_at {A} first next x there e = ap (λ (r : Read A). and_then r next) e
 pub and_then_decides
     : {A B : Type 0} (first : Read A) (next : A → Input → Read B)
     (Reads : A → Input → Type 0) (Refuses : Fault → Type 0) (Behind : A → Input → B → Input → Type 0) (Fails : A → Input → Fault → Type 0)
-    → Decides A first Reads Refuses → ((x : A) (there : Input) → Decides B (next x there) (Behind x there) (Fails x there))
+    → Decides A first Reads Refuses → ((x : A) (there : Input) → Reads x there → Decides B (next x there) (Behind x there) (Fails x there))
     → Decides B (and_then first next)
     (λ y after. (x : A) × (there : Input) × Reads x there × Behind x there y after)
     (λ fault. Refuses fault ⊎ ((x : A) × (there : Input) × Reads x there × Fails x there fault))
@@ -56,18 +56,36 @@ and_then_decides {A} {B} first next Reads Refuses Behind Fails one other =
     record {
       found = λ y after e.
           let parts = and_then_ok first next y after e in
-          (parts.0, parts.1, one.found parts.0 parts.1 parts.2, (other parts.0 parts.1).found y after parts.3);
+          let reads = one.found parts.0 parts.1 parts.2 in
+          (parts.0, parts.1, reads, (other parts.0 parts.1 reads).found y after parts.3);
       only = λ y after reads.
-          and_then_at first next reads.0 reads.1 (one.only reads.0 reads.1 reads.2) ∙ (other reads.0 reads.1).only y after reads.3;
+          and_then_at first next reads.0 reads.1 (one.only reads.0 reads.1 reads.2) ∙ (other reads.0 reads.1 reads.2).only y after reads.3;
       refused = λ fault e. elim (and_then_err first next fault e) [
         | inl fails ↦ inl (one.refused fault fails)
-        | inr parts ↦ inr (parts.0, parts.1, one.found parts.0 parts.1 parts.2, (other parts.0 parts.1).refused fault parts.3)
+        | inr parts ↦
+            let reads = one.found parts.0 parts.1 parts.2 in
+            inr (parts.0, parts.1, reads, (other parts.0 parts.1 reads).refused fault parts.3)
       ];
       only_refused = λ fault refuses. elim refuses [
         | inl fails ↦ ap (λ (r : Read A). and_then r next) (one.only_refused fault fails)
         | inr parts ↦
-            and_then_at first next parts.0 parts.1 (one.only parts.0 parts.1 parts.2) ∙ (other parts.0 parts.1).only_refused fault parts.3
+            and_then_at first next parts.0 parts.1 (one.only parts.0 parts.1 parts.2)
+            ∙ (other parts.0 parts.1 parts.2).only_refused fault parts.3
       ];
+    }
+
+-- the same, where what is read and what is refused are told in other words
+pub told_decides
+    : {A : Type 0} (read : Read A) (Reads Other : A → Input → Type 0) (Refuses Fails : Fault → Type 0) → Decides A read Reads Refuses
+    → ((x : A) (after : Input) → Reads x after → Other x after) → ((x : A) (after : Input) → Other x after → Reads x after)
+    → ((fault : Fault) → Refuses fault → Fails fault) → ((fault : Fault) → Fails fault → Refuses fault)
+    → Decides A read Other Fails
+told_decides read Reads Other Refuses Fails one to back fails refuses =
+    record {
+      found = λ x after e. to x after (one.found x after e);
+      only = λ x after reads. one.only x after (back x after reads);
+      refused = λ fault e. fails fault (one.refused fault e);
+      only_refused = λ fault f. one.only_refused fault (refuses fault f);
     }
 
 -- A part of something else.

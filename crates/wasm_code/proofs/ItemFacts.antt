@@ -1,5 +1,5 @@
 -- Each item takes a byte at least, and an operator of its own opens no block and closes none.
-use Rattle.std.proofs.Common.{◌≡◌, ℕ, suc, zero, ◌+◌, ◌<◌, ◌≤◌, Bool, true, false, ◌==◌, nat_lt, if◌then◌else◌, List, [], ◌∷◌, ◌++◌, length, refl, ap, sym, subst, arith, rules, length-append}
+use Rattle.std.proofs.Common.{◌≡◌, ℕ, ◌+◌, ◌<◌, ◌≤◌, Bool, true, false, ◌==◌, nat_lt, if◌then◌else◌, List, [], ◌∷◌, length, refl, ap, sym, subst, arith, rules, length-append}
 use Rattle.wasm_ops.specs.declared.operators.Op.{Op}
 use Rattle.wasm_ops.specs.declared.operators.Op.TheVariants as op
 use Rattle.wasm_ops.specs.declared.types.ValType.{ValType}
@@ -20,7 +20,7 @@ use Rattle.wasm_code.specs.declared.forms.Indexed.TheVariants as indexed
 use Rattle.wasm_code.specs.Forms.{Rows, control_rows, variable_rows, load_rows, store_rows, look_up, row_of, takes_one, int_op, is_float_op, form_of, with_index}
 use Rattle.wasm_code.specs.Reading.{ReadsByte}
 use Rattle.wasm_code.specs.Layouts.{ReadsZero, ReadsIndex, ReadsAddress, ReadsLayout}
-use Rattle.wasm_code.specs.Locals.{ReadsGroup, ReadsGroups, ReadsLocals}
+use Rattle.wasm_code.specs.Locals.{Group, ReadsGroups, ReadsLocals}
 use Rattle.wasm_code.specs.Items.{Parsed, table, ReadsLabels, ReadsForm, ReadsItem}
 
 byte_shorter : (before : Input) (byte : ℕ) (after : Input) → ReadsByte before byte after → length after.left < length before.left
@@ -69,13 +69,13 @@ layout_shorter IndirectCall before operator after reads =
 layout_shorter Float before operator after reads = absurd reads
 layout_shorter Unknown before operator after reads = absurd reads
 
+-- each label takes a byte at least
 labels_shorter
-    : (count : ℕ) (targets : List ℕ) (before : Input) (all : List ℕ) (after : Input) → ReadsLabels count targets before all after
-    → length after.left ≤ length before.left
-labels_shorter zero targets before all after reads = let same = same_left after before reads.1 in omega arith
-labels_shorter (suc count) targets before all after reads =
-    let shorter = number_shorter Unsigned 32 before reads.0 reads.1 reads.2 in
-    let further = labels_shorter count (targets ++ reads.0 ∷ []) reads.1 all after reads.3 in omega arith
+    : (labels : List ℕ) (before after : Input) → ReadsLabels labels before after → length labels + length after.left ≤ length before.left
+labels_shorter [] before after reads = let same = same_left after before reads in omega arith
+labels_shorter (label ∷ labels) before after reads =
+    let shorter = number_shorter Unsigned 32 before label reads.0 reads.1 in
+    let further = labels_shorter labels reads.0 after reads.2 in omega arith
 
 form_shorter
     : (form : Form) (depth : ℕ) (targets : List ℕ) (before : Input) (parsed : Parsed) (after : Input) → ReadsForm form depth targets before parsed after
@@ -83,7 +83,8 @@ form_shorter
 form_shorter (Operator layout) depth targets before parsed after reads = layout_shorter layout before reads.0 after reads.1
 form_shorter Labels depth targets before parsed after reads =
     let shorter = number_shorter Unsigned 32 before reads.0 reads.1 reads.2 in
-    let further = labels_shorter (suc reads.0) targets reads.1 reads.3.1.0 after reads.3.1.1 in omega arith
+    let adds = reads.3.1.1 in
+    let further = labels_shorter adds.0 reads.1 after adds.2 in omega arith
 form_shorter (Opens opener) depth targets before parsed after reads =
     let spelt = reads.1.1 in
     let shorter = byte_shorter before spelt.0 spelt.1 spelt.2 in
@@ -207,17 +208,6 @@ item_plain depth targets before o all after reads =
 
 -- Each new label took a byte at least.
 
-labels_few
-    : (count : ℕ) (targets : List ℕ) (before : Input) (all : List ℕ) (after : Input) → ReadsLabels count targets before all after
-    → length all + length after.left ≤ length targets + length before.left
-labels_few zero targets before all after reads =
-    let same = same_left after before reads.1 in
-    let lengths = ap (λ (xs : List ℕ). length xs) reads.0 in omega arith
-labels_few (suc count) targets before all after reads =
-    let shorter = number_shorter Unsigned 32 before reads.0 reads.1 reads.2 in
-    let further = labels_few count (targets ++ reads.0 ∷ []) reads.1 all after reads.3 in
-    omega (arith, length-append targets (reads.0 ∷ []))
-
 same_targets : (p q : Parsed) → p ≡ q → length p.1 ≡ length q.1
 same_targets p q e = ap (λ (r : Parsed). length r.1) e
 
@@ -229,8 +219,10 @@ form_few (Operator layout) depth targets before parsed after reads =
     let same = same_targets parsed (item.Operator reads.0, targets) reads.2 in omega arith
 form_few Labels depth targets before parsed after reads =
     let shorter = number_shorter Unsigned 32 before reads.0 reads.1 reads.2 in
-    let further = labels_few (suc reads.0) targets reads.1 reads.3.1.0 after reads.3.1.1 in
-    let same = same_targets parsed (table targets reads.0 reads.3.1.0) reads.3.1.2 in omega arith
+    let adds = reads.3.1.1 in
+    let further = labels_shorter adds.0 reads.1 after adds.2 in
+    let all = ap (λ (xs : List ℕ). length xs) adds.3 in
+    let same = same_targets parsed (table targets reads.0 reads.3.1.0) reads.3.1.2 in omega (arith, length-append targets adds.0)
 form_few (Opens opener) depth targets before parsed after reads =
     let shorter = form_shorter (Opens opener) depth targets before parsed after reads in
     let same = same_targets parsed (item.Opens opener reads.1.0, targets) reads.1.2 in omega arith
@@ -250,24 +242,17 @@ item_few depth targets before parsed after reads =
 
 -- The locals are a part of the bytes.
 
-group_shorter
-    : (locals : List ValType) (before : Input) (more : List ValType) (after : Input) → ReadsGroup locals before more after
-    → length after.left ≤ length before.left
-group_shorter locals before more after reads =
-    let shorter = number_shorter Unsigned 32 before reads.0 reads.1 reads.2 in
-    let spelt = reads.3.1.1 in
-    let byte = byte_shorter reads.1 spelt.0 spelt.1 spelt.2 in
-    let same = same_left after spelt.1 spelt.3.1 in omega arith
-
-groups_shorter
-    : (groups : ℕ) (locals : List ValType) (before : Input) (all : List ValType) (after : Input) → ReadsGroups groups locals before all after
-    → length after.left ≤ length before.left
-groups_shorter zero locals before all after reads = let same = same_left after before reads.1 in omega arith
-groups_shorter (suc groups) locals before all after reads =
-    let shorter = group_shorter locals before reads.0 reads.1 reads.2 in
-    let further = groups_shorter groups reads.0 reads.1 all after reads.3 in omega arith
+groups_shorter : (groups : List Group) (before after : Input) → ReadsGroups groups before after → length after.left ≤ length before.left
+groups_shorter [] before after reads = let same = same_left after before reads in omega arith
+groups_shorter (group ∷ groups) before after reads =
+    let shorter = number_shorter Unsigned 32 before group.count reads.0 reads.2 in
+    let spelt = reads.3 in
+    let byte = byte_shorter reads.0 spelt.0 spelt.1 spelt.2 in
+    let same = same_left reads.1 spelt.1 spelt.3.1 in
+    let further = groups_shorter groups reads.1 after reads.4 in omega arith
 
 pub locals_shorter : (before : Input) (all : List ValType) (after : Input) → ReadsLocals before all after → length after.left ≤ length before.left
 locals_shorter before all after reads =
     let shorter = number_shorter Unsigned 32 before reads.0 reads.1 reads.2 in
-    let further = groups_shorter reads.0 [] reads.1 all after reads.3 in omega arith
+    let adds = reads.3 in
+    let further = groups_shorter adds.0 reads.1 after adds.2 in omega arith

@@ -1,6 +1,8 @@
 -- Items and locals are decided: each is read exactly where it is spelt, and refused exactly where it is refused.
-use Rattle.std.proofs.Common.{◌≡◌, ◌≢◌, ◌⊎◌, inl, inr, ℕ, suc, zero, ◌+◌, ◌<◌, ◌≤◌, List, [], ◌∷◌, ◌++◌, length, replicate, Option, Some, None, Ok, Err, refl, ap, sym, ◌∙◌, arith}
+use Rattle.std.proofs.Common.{◌≡◌, ◌≢◌, ◌⊎◌, inl, inr, ℕ, suc, zero, ◌+◌, ◌<◌, ◌≤◌, List, [], ◌∷◌, ◌++◌, length, replicate, Option, Some, None, Ok, Err, refl, ap, sym, ◌∙◌, subst, append-nil, append_assoc, length-append, arith}
 use Rattle.std.proofs.lemmas.Bool.{cases_eq, eq-eqb, ne_eqb}
+use Rattle.std.proofs.lemmas.List.{length-replicate}
+use Rattle.wasm_ops.specs.declared.faults.Fault.{Fault}
 use Rattle.wasm_ops.specs.declared.operators.Op.{Op}
 use Rattle.wasm_ops.specs.declared.operators.Op.TheVariants as op
 use Rattle.wasm_ops.specs.declared.types.ValType.{ValType}
@@ -16,9 +18,9 @@ use Rattle.wasm_code.specs.Forms.{form_of, with_index}
 use Rattle.wasm_code.specs.Reading.{as_part, within, fault_at, ReadsByte, LacksByte}
 use Rattle.wasm_code.specs.Types.{type_of, result_of, no_type, typed, as_from, ReadsAs, RefusesAs, ReadsType, RefusesType, type_from, ReadsBlockType, RefusesBlockType, block_type_from}
 use Rattle.wasm_code.specs.Layouts.{ReadsZero, RefusesZero, ReadsIndex, ReadsAddress, RefusesAddress, ReadsLayout, RefusesLayout, zeroed, zero_from, index_from, address_from, layout_from}
-use Rattle.wasm_code.specs.Items.{most_targets, most_blocks, Parsed, ReadsLabels, RefusesLabels, table, ReadsForm, RefusesForm, ReadsItem, RefusesItem, labels_from, table_from, form_from, item_from}
-use Rattle.wasm_code.specs.Locals.{most_locals, ReadsGroup, RefusesGroup, ReadsGroups, RefusesGroups, ReadsLocals, RefusesLocals, written_out, group_from, groups_from, locals_from}
-use Rattle.wasm_code.proofs.Decisions.{Decides, read_parts, read_same, fault_same, and_then_decides, as_part_decides, within_decides, stands_decides, fails_decides, byte_decides, number_decides}
+use Rattle.wasm_code.specs.Items.{most_targets, most_blocks, Parsed, ReadsLabels, AddsLabels, RefusesLabels, table, ReadsForm, RefusesForm, ReadsItem, RefusesItem, labels_from, table_from, form_from, item_from}
+use Rattle.wasm_code.specs.Locals.{most_locals, Group, RefusesGroup, ReadsGroups, written_out, AddsGroups, RefusesGroups, ReadsLocals, RefusesLocals, with_group, group_from, groups_from, locals_from}
+use Rattle.wasm_code.proofs.Decisions.{Decides, read_parts, read_same, fault_same, and_then_decides, told_decides, as_part_decides, within_decides, stands_decides, fails_decides, byte_decides, number_decides}
 
 -- Types.
 
@@ -46,7 +48,7 @@ as_decides {A} of before =
     (ReadsByte before) (LacksByte before)
     (λ byte there x after. (of byte ≡ Some x) × (after ≡ there))
     (λ byte there fault. (of byte ≡ None) × (fault ≡ fault_at (no_type byte) before.at))
-    (byte_decides before) (λ byte there. typed_decides before.at byte (of byte) there)
+    (byte_decides before) (λ byte there reads. typed_decides before.at byte (of byte) there)
 
 -- Operators that open no block.
 
@@ -76,7 +78,7 @@ zero_decides o before =
     (ReadsByte before) (LacksByte before)
     (λ byte there operator after. (byte ≡ 0) × (operator ≡ o) × (after ≡ there))
     (λ byte there fault. (byte ≢ 0) × (fault ≡ fault_at 13 before.at))
-    (byte_decides before) (λ byte there. zeroed_at o before.at byte there (cases_eq byte 0))
+    (byte_decides before) (λ byte there reads. zeroed_at o before.at byte there (cases_eq byte 0))
 
 u32_decides : (before : Input) → Decides ℕ (number_from Unsigned 32 before) (ReadsNumber Unsigned 32 before) (RefusesNumber Unsigned 32 before)
 u32_decides before = number_decides Unsigned 32 before (omega arith)
@@ -93,7 +95,7 @@ address_decides with before =
     (ReadsNumber Unsigned 32 before) (RefusesNumber Unsigned 32 before)
     (λ align there operator after. ReadsIndex (with align) there operator after)
     (λ align there fault. RefusesNumber Unsigned 32 there fault)
-    (u32_decides before) (λ align there. index_decides (with align) there)
+    (u32_decides before) (λ align there reads. index_decides (with align) there)
 
 layout_decides
     : (layout : Layout) (at : ℕ) (before : Input) → Decides Op (layout_from layout at before) (ReadsLayout layout before) (RefusesLayout layout at before)
@@ -113,22 +115,81 @@ layout_decides IndirectCall at before =
     (ReadsNumber Unsigned 32 before) (RefusesNumber Unsigned 32 before)
     (λ index there operator after. ReadsZero (op.CallIndirect index) there operator after)
     (λ index there fault. RefusesZero there fault)
-    (u32_decides before) (λ index there. zero_decides (op.CallIndirect index) there)
+    (u32_decides before) (λ index there reads. zero_decides (op.CallIndirect index) there)
 layout_decides Float at before = fails_decides (fault_at 5 at)
 layout_decides Unknown at before = fails_decides (fault_at 6 at)
 
 -- Items.
 
+-- the first label, and the others behind it
+abbrev AddsFirst : (count : ℕ) (targets : List ℕ) (before : Input) (all : List ℕ) (after : Input) → Type 0
+AddsFirst count targets before all after =
+    (label : ℕ) × (there : Input) × ReadsNumber Unsigned 32 before label there × AddsLabels count (targets ++ label ∷ []) there all after
+
+abbrev RefusesFirst : (count : ℕ) (before : Input) (fault : Fault) → Type 0
+RefusesFirst count before fault =
+    RefusesNumber Unsigned 32 before fault
+    ⊎ ((label : ℕ) × (there : Input) × ReadsNumber Unsigned 32 before label there × RefusesLabels count there fault)
+
+more_labels
+    : (count : ℕ) (targets : List ℕ) (before : Input) (all : List ℕ) (after : Input) → AddsFirst count targets before all after
+    → AddsLabels (suc count) targets before all after
+more_labels count targets before all after first =
+    let others = first.3 in
+    let labels = others.0 in
+    (first.0 ∷ labels, omega arith, (first.1, first.2, others.2), others.3 ∙ append_assoc targets (first.0 ∷ []) labels)
+
+first_label
+    : (count : ℕ) (targets : List ℕ) (before : Input) (all : List ℕ) (after : Input) (labels : List ℕ) → length labels ≡ suc count
+    → ReadsLabels labels before after → all ≡ targets ++ labels → AddsFirst count targets before all after
+first_label count targets before all after [] long reads e = let bad : ⊥ = omega arith in absurd bad
+first_label count targets before all after (label ∷ labels) long reads e =
+    (label, reads.0, reads.1, (labels, omega arith, reads.2, e ∙ sym (append_assoc targets (label ∷ []) labels)))
+
+refuses_more : (count : ℕ) (before : Input) (fault : Fault) → RefusesFirst count before fault → RefusesLabels (suc count) before fault
+refuses_more count before fault (inl refuses) = ([], before, omega arith, refl, refuses)
+refuses_more count before fault (inr first) =
+    let others = first.3 in
+    let fewer = others.2 in
+    (first.0 ∷ others.0, others.1, omega arith, (first.1, first.2, others.3), others.4)
+
+refuses_first
+    : (count : ℕ) (before : Input) (fault : Fault) (labels : List ℕ) (there : Input) → length labels < suc count
+    → ReadsLabels labels before there → RefusesNumber Unsigned 32 there fault → RefusesFirst count before fault
+refuses_first count before fault [] there fewer reads refuses =
+    let P : Input → Type 0 = λ z. RefusesNumber Unsigned 32 z fault in inl (subst P reads refuses)
+refuses_first count before fault (label ∷ labels) there fewer reads refuses =
+    inr (label, reads.0, reads.1, (labels, there, omega arith, reads.2, refuses))
+
+no_labels
+    : (targets : List ℕ) (before : Input) (all : List ℕ) (after : Input) (labels : List ℕ) → length labels ≡ 0
+    → ReadsLabels labels before after → all ≡ targets ++ labels → (all ≡ targets) × (after ≡ before)
+no_labels targets before all after [] long reads e = (e ∙ append-nil targets, reads)
+no_labels targets before all after (label ∷ labels) long reads e = let bad : ⊥ = omega arith in absurd bad
+
 labels_decides
     : (count : ℕ) (targets : List ℕ) (before : Input)
-    → Decides (List ℕ) (labels_from count targets before) (ReadsLabels count targets before) (RefusesLabels count targets before)
-labels_decides zero targets before = stands_decides targets before
+    → Decides (List ℕ) (labels_from count targets before) (AddsLabels count targets before) (RefusesLabels count before)
+labels_decides zero targets before =
+    told_decides (labels_from zero targets before)
+    (λ all after. (all ≡ targets) × (after ≡ before)) (AddsLabels zero targets before) (λ fault. ⊥) (RefusesLabels zero before)
+    (stands_decides targets before)
+    (λ all after is. ([], refl, is.1, is.0 ∙ sym (append-nil targets)))
+    (λ all after adds. no_labels targets before all after adds.0 adds.1 adds.2 adds.3)
+    (λ fault none. absurd none)
+    (λ fault refuses. let fewer = refuses.2 in let bad : ⊥ = omega arith in bad)
 labels_decides (suc count) targets before =
-    and_then_decides (number_from Unsigned 32 before) (λ label there. labels_from count (targets ++ label ∷ []) there)
+    told_decides (labels_from (suc count) targets before)
+    (AddsFirst count targets before) (AddsLabels (suc count) targets before) (RefusesFirst count before) (RefusesLabels (suc count) before)
+    (and_then_decides (number_from Unsigned 32 before) (λ label there. labels_from count (targets ++ label ∷ []) there)
     (ReadsNumber Unsigned 32 before) (RefusesNumber Unsigned 32 before)
-    (λ label there all after. ReadsLabels count (targets ++ label ∷ []) there all after)
-    (λ label there fault. RefusesLabels count (targets ++ label ∷ []) there fault)
-    (u32_decides before) (λ label there. labels_decides count (targets ++ label ∷ []) there)
+    (λ label there all after. AddsLabels count (targets ++ label ∷ []) there all after)
+    (λ label there fault. RefusesLabels count there fault)
+    (u32_decides before) (λ label there reads. labels_decides count (targets ++ label ∷ []) there))
+    (more_labels count targets before)
+    (λ all after adds. first_label count targets before all after adds.0 adds.1 adds.2 adds.3)
+    (refuses_more count before)
+    (λ fault refuses. refuses_first count before fault refuses.0 refuses.1 refuses.2 refuses.3 refuses.4)
 
 table_decides
     : (depth : ℕ) (targets : List ℕ) (at : ℕ) (before : Input)
@@ -137,13 +198,13 @@ table_decides depth targets at before =
     and_then_decides (number_from Unsigned 32 before)
     (λ count there. within most_targets count (fault_at 12 before.at) (as_part (table targets count) (labels_from (suc count) targets there)))
     (ReadsNumber Unsigned 32 before) (RefusesNumber Unsigned 32 before)
-    (λ count there parsed after. (count ≤ most_targets) × ((all : List ℕ) × ReadsLabels (suc count) targets there all after × (parsed ≡ table targets count all)))
-    (λ count there fault. ((most_targets < count) × (fault ≡ fault_at 12 before.at)) ⊎ ((count ≤ most_targets) × RefusesLabels (suc count) targets there fault))
+    (λ count there parsed after. (count ≤ most_targets) × ((all : List ℕ) × AddsLabels (suc count) targets there all after × (parsed ≡ table targets count all)))
+    (λ count there fault. ((most_targets < count) × (fault ≡ fault_at 12 before.at)) ⊎ ((count ≤ most_targets) × RefusesLabels (suc count) there fault))
     (u32_decides before)
-    (λ count there. within_decides most_targets count (fault_at 12 before.at) (as_part (table targets count) (labels_from (suc count) targets there))
-    (λ parsed after. (all : List ℕ) × ReadsLabels (suc count) targets there all after × (parsed ≡ table targets count all))
-    (RefusesLabels (suc count) targets there)
-    (as_part_decides (table targets count) (labels_from (suc count) targets there) (ReadsLabels (suc count) targets there) (RefusesLabels (suc count) targets there)
+    (λ count there reads. within_decides most_targets count (fault_at 12 before.at) (as_part (table targets count) (labels_from (suc count) targets there))
+    (λ parsed after. (all : List ℕ) × AddsLabels (suc count) targets there all after × (parsed ≡ table targets count all))
+    (RefusesLabels (suc count) there)
+    (as_part_decides (table targets count) (labels_from (suc count) targets there) (AddsLabels (suc count) targets there) (RefusesLabels (suc count) there)
     (labels_decides (suc count) targets there)))
 
 form_decides
@@ -171,40 +232,147 @@ item_decides depth targets before =
     (ReadsByte before) (LacksByte before)
     (λ byte there parsed after. ReadsForm (form_of byte) depth targets there parsed after)
     (λ byte there fault. RefusesForm (form_of byte) depth targets before.at there fault)
-    (byte_decides before) (λ byte there. form_decides (form_of byte) depth targets before.at there)
+    (byte_decides before) (λ byte there reads. form_decides (form_of byte) depth targets before.at there)
 
 -- Locals.
+
+-- a group behind the locals before it
+abbrev pub ReadsGroup : (locals : List ValType) (before : Input) (more : List ValType) (after : Input) → Type 0
+ReadsGroup locals before more after =
+    (count : ℕ) × (there : Input) × ReadsNumber Unsigned 32 before count there × ((length locals + count ≤ most_locals)
+    × ((value : ValType) × ReadsType there value after × (more ≡ locals ++ replicate count value)))
 
 group_decides
     : (locals : List ValType) (before : Input)
     → Decides (List ValType) (group_from locals before) (ReadsGroup locals before) (RefusesGroup locals before)
 group_decides locals before =
     and_then_decides (number_from Unsigned 32 before)
-    (λ count there. within most_locals (length locals + count) (fault_at 11 before.at) (as_part (written_out locals count) (type_from there)))
+    (λ count there. within most_locals (length locals + count) (fault_at 11 before.at) (as_part (with_group locals count) (type_from there)))
     (ReadsNumber Unsigned 32 before) (RefusesNumber Unsigned 32 before)
     (λ count there more after. (length locals + count ≤ most_locals) × ((value : ValType) × ReadsType there value after × (more ≡ locals ++ replicate count value)))
     (λ count there fault. ((most_locals < length locals + count) × (fault ≡ fault_at 11 before.at)) ⊎ ((length locals + count ≤ most_locals) × RefusesType there fault))
     (u32_decides before)
-    (λ count there. within_decides most_locals (length locals + count) (fault_at 11 before.at) (as_part (written_out locals count) (type_from there))
+    (λ count there reads. within_decides most_locals (length locals + count) (fault_at 11 before.at) (as_part (with_group locals count) (type_from there))
     (λ more after. (value : ValType) × ReadsType there value after × (more ≡ locals ++ replicate count value))
     (RefusesType there)
-    (as_part_decides (written_out locals count) (type_from there) (ReadsType there) (RefusesType there) (as_decides type_of there)))
+    (as_part_decides (with_group locals count) (type_from there) (ReadsType there) (RefusesType there) (as_decides type_of there)))
+
+-- the first group, and the others behind it
+abbrev AddsFirstGroup : (count : ℕ) (locals : List ValType) (before : Input) (all : List ValType) (after : Input) → Type 0
+AddsFirstGroup count locals before all after =
+    (more : List ValType) × (there : Input) × ReadsGroup locals before more there × AddsGroups count more there all after
+
+abbrev RefusesFirstGroup : (count : ℕ) (locals : List ValType) (before : Input) (fault : Fault) → Type 0
+RefusesFirstGroup count locals before fault =
+    RefusesGroup locals before fault
+    ⊎ ((more : List ValType) × (there : Input) × ReadsGroup locals before more there × RefusesGroups count more there fault)
+
+-- what is behind a group, by other words for the locals before it
+regrouped : (locals more : List ValType) (group : Group) (groups : List Group) → more ≡ locals ++ replicate group.count group.value
+    → more ++ written_out groups ≡ locals ++ written_out (group ∷ groups)
+regrouped locals more group groups e =
+    ap (λ (all : List ValType). all ++ written_out groups) e ∙ append_assoc locals (replicate group.count group.value) (written_out groups)
+
+long_more : (locals : List ValType) (count : ℕ) (value : ValType) → length (locals ++ replicate count value) ≡ length locals + count
+long_more locals count value = omega (arith, length-append locals (replicate count value), length-replicate count value)
+
+more_groups
+    : (count : ℕ) (locals : List ValType) (before : Input) (all : List ValType) (after : Input) → AddsFirstGroup count locals before all after
+    → AddsGroups (suc count) locals before all after
+more_groups count locals before all after first =
+    let reads = first.2 in
+    let others = first.3 in
+    let group : Group = record { count = reads.0; value = reads.3.1.0 } in
+    (group ∷ others.0, omega arith, (reads.1, first.1, reads.2, reads.3.1.1, others.2), others.3 ∙ regrouped locals first.0 group others.0 reads.3.1.2, others.4)
+
+first_group
+    : (count : ℕ) (locals : List ValType) (before : Input) (all : List ValType) (after : Input) (groups : List Group) → length groups ≡ suc count
+    → ReadsGroups groups before after → all ≡ locals ++ written_out groups → length all ≤ most_locals → AddsFirstGroup count locals before all after
+first_group count locals before all after [] long reads e few = let bad : ⊥ = omega arith in absurd bad
+first_group count locals before all after (group ∷ groups) long reads e few =
+    let more : List ValType = locals ++ replicate group.count group.value in
+    let split = e ∙ sym (regrouped locals more group groups refl) in
+    let lengths = ap (λ (xs : List ValType). length xs) split in
+    let room : length locals + group.count ≤ most_locals =
+    omega (arith, length-append more (written_out groups), long_more locals group.count group.value) in
+    (more, reads.1, (group.count, reads.0, reads.2, (room, (group.value, reads.3, refl))), (groups, omega arith, reads.4, split, few))
+
+refuses_more_groups
+    : (count : ℕ) (locals : List ValType) (before : Input) (fault : Fault) → length locals ≤ most_locals → RefusesFirstGroup count locals before fault
+    → RefusesGroups (suc count) locals before fault
+refuses_more_groups count locals before fault few (inl refuses) =
+    let P : List ValType → Type 0 = λ all. (length all ≤ most_locals) × RefusesGroup all before fault in
+    let here = subst P (sym (append-nil locals)) (few, refuses) in
+    ([], before, omega arith, refl, here.0, here.1)
+refuses_more_groups count locals before fault few (inr first) =
+    let reads = first.2 in
+    let others = first.3 in
+    let fewer = others.2 in
+    let group : Group = record { count = reads.0; value = reads.3.1.0 } in
+    let P : List ValType → Type 0 = λ all. (length all ≤ most_locals) × RefusesGroup all others.1 fault in
+    let here = subst P (regrouped locals first.0 group others.0 reads.3.1.2) (others.4, others.5) in
+    (group ∷ others.0, others.1, omega arith, (reads.1, first.1, reads.2, reads.3.1.1, others.3), here.0, here.1)
+
+refuses_first_group
+    : (count : ℕ) (locals : List ValType) (before : Input) (fault : Fault) (groups : List Group) (here : Input) → length groups < suc count
+    → ReadsGroups groups before here → length (locals ++ written_out groups) ≤ most_locals → RefusesGroup (locals ++ written_out groups) here fault
+    → RefusesFirstGroup count locals before fault
+refuses_first_group count locals before fault [] here fewer reads few refuses =
+    let P : List ValType → Type 0 = λ all. RefusesGroup all here fault in
+    let Q : Input → Type 0 = λ z. RefusesGroup locals z fault in
+    inl (subst Q reads (subst P (append-nil locals) refuses))
+refuses_first_group count locals before fault (group ∷ groups) here fewer reads few refuses =
+    let more : List ValType = locals ++ replicate group.count group.value in
+    let P : List ValType → Type 0 = λ all. (length all ≤ most_locals) × RefusesGroup all here fault in
+    let there = subst P (sym (regrouped locals more group groups refl)) (few, refuses) in
+    let within = there.0 in
+    let room : length locals + group.count ≤ most_locals =
+    omega (arith, length-append more (written_out groups), long_more locals group.count group.value) in
+    inr (more, reads.1, (group.count, reads.0, reads.2, (room, (group.value, reads.3, refl))), (groups, here, omega arith, reads.4, there.0, there.1))
+
+no_groups
+    : (locals : List ValType) (before : Input) (all : List ValType) (after : Input) (groups : List Group) → length groups ≡ 0
+    → ReadsGroups groups before after → all ≡ locals ++ written_out groups → (all ≡ locals) × (after ≡ before)
+no_groups locals before all after [] long reads e = (e ∙ append-nil locals, reads)
+no_groups locals before all after (group ∷ groups) long reads e = let bad : ⊥ = omega arith in absurd bad
+
+-- as many as there may be, with a group that stands
+few_more
+    : (locals : List ValType) (before : Input) (more : List ValType) (there : Input) → ReadsGroup locals before more there → length more ≤ most_locals
+few_more locals before more there reads =
+    let lengths = ap (λ (xs : List ValType). length xs) reads.3.1.2 in
+    let room = reads.3.0 in omega (arith, long_more locals reads.0 reads.3.1.0)
 
 groups_decides
-    : (groups : ℕ) (locals : List ValType) (before : Input)
-    → Decides (List ValType) (groups_from groups locals before) (ReadsGroups groups locals before) (RefusesGroups groups locals before)
-groups_decides zero locals before = stands_decides locals before
-groups_decides (suc groups) locals before =
-    and_then_decides (group_from locals before) (λ more there. groups_from groups more there)
+    : (count : ℕ) (locals : List ValType) (before : Input) → length locals ≤ most_locals
+    → Decides (List ValType) (groups_from count locals before) (AddsGroups count locals before) (RefusesGroups count locals before)
+groups_decides zero locals before few =
+    told_decides (groups_from zero locals before)
+    (λ all after. (all ≡ locals) × (after ≡ before)) (AddsGroups zero locals before) (λ fault. ⊥) (RefusesGroups zero locals before)
+    (stands_decides locals before)
+    (λ all after is.
+    let lengths = ap (λ (xs : List ValType). length xs) is.0 in ([], refl, is.1, is.0 ∙ sym (append-nil locals), omega arith))
+    (λ all after adds. no_groups locals before all after adds.0 adds.1 adds.2 adds.3)
+    (λ fault none. absurd none)
+    (λ fault refuses. let fewer = refuses.2 in let bad : ⊥ = omega arith in bad)
+groups_decides (suc count) locals before few =
+    told_decides (groups_from (suc count) locals before)
+    (AddsFirstGroup count locals before) (AddsGroups (suc count) locals before)
+    (RefusesFirstGroup count locals before) (RefusesGroups (suc count) locals before)
+    (and_then_decides (group_from locals before) (λ more there. groups_from count more there)
     (ReadsGroup locals before) (RefusesGroup locals before)
-    (λ more there all after. ReadsGroups groups more there all after)
-    (λ more there fault. RefusesGroups groups more there fault)
-    (group_decides locals before) (λ more there. groups_decides groups more there)
+    (λ more there all after. AddsGroups count more there all after)
+    (λ more there fault. RefusesGroups count more there fault)
+    (group_decides locals before) (λ more there reads. groups_decides count more there (few_more locals before more there reads)))
+    (more_groups count locals before)
+    (λ all after adds. first_group count locals before all after adds.0 adds.1 adds.2 adds.3 adds.4)
+    (λ fault refuses. refuses_more_groups count locals before fault few refuses)
+    (λ fault refuses. refuses_first_group count locals before fault refuses.0 refuses.1 refuses.2 refuses.3 refuses.4 refuses.5)
 
 pub locals_decides : (before : Input) → Decides (List ValType) (locals_from before) (ReadsLocals before) (RefusesLocals before)
 locals_decides before =
     and_then_decides (number_from Unsigned 32 before) (λ groups there. groups_from groups [] there)
     (ReadsNumber Unsigned 32 before) (RefusesNumber Unsigned 32 before)
-    (λ groups there all after. ReadsGroups groups [] there all after)
+    (λ groups there all after. AddsGroups groups [] there all after)
     (λ groups there fault. RefusesGroups groups [] there fault)
-    (u32_decides before) (λ groups there. groups_decides groups [] there)
+    (u32_decides before) (λ groups there reads. groups_decides groups [] there (omega arith))

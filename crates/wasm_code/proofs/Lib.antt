@@ -1,3 +1,4 @@
+mod BodyExamples
 pub mod Decisions
 pub mod ItemLaws
 pub mod ItemFacts

@@ -1,8 +1,9 @@
 -- How one item of a body is spelt, and what refuses it (WebAssembly Core 1.0, section 5.4).
-use Rattle.std.specs.Prelude.{◌≡◌, ◌⊎◌, ℕ, suc, zero, ◌+◌, ◌<◌, ◌≤◌, List, [], ◌∷◌, ◌++◌, length, Ok}
+use Rattle.std.specs.Prelude.{◌≡◌, ◌⊎◌, ℕ, suc, zero, ◌+◌, ◌<◌, ◌≤◌, List, [], ◌∷◌, ◌++◌, length, Option, Ok}
 use Rattle.wasm_ops.specs.declared.faults.Fault.{Fault}
 use Rattle.wasm_ops.specs.declared.operators.Op.{Op}
 use Rattle.wasm_ops.specs.declared.operators.Op.TheVariants as op
+use Rattle.wasm_ops.specs.declared.types.ValType.{ValType}
 use Rattle.wasm_ops.specs.declared.numbers.Sign.TheVariants.{Unsigned}
 use Rattle.wasm_ops.specs.Input.{Input, byte_from}
 use Rattle.wasm_ops.specs.NumberInput.{ReadsNumber, RefusesNumber, number_from}
@@ -26,32 +27,35 @@ most_blocks = 1000
 abbrev pub Parsed : Type 0
 Parsed = Item × List ℕ
 
--- so many labels one behind another, each added to those before it
-abbrev pub ReadsLabels : (count : ℕ) (targets : List ℕ) (before : Input) (all : List ℕ) (after : Input) → Type 0
-ReadsLabels zero targets before all after = (all ≡ targets) × (after ≡ before)
-ReadsLabels (suc count) targets before all after =
-    (label : ℕ) × (there : Input) × ReadsNumber Unsigned 32 before label there × ReadsLabels count (targets ++ label ∷ []) there all after
+-- labels, one behind another
+abbrev pub ReadsLabels : (labels : List ℕ) (before after : Input) → Type 0
+ReadsLabels [] before after = after ≡ before
+ReadsLabels (label ∷ labels) before after =
+    (there : Input) × ReadsNumber Unsigned 32 before label there × ReadsLabels labels there after
 
--- one of them is no number, behind those that are
-abbrev pub RefusesLabels : (count : ℕ) (targets : List ℕ) (before : Input) (fault : Fault) → Type 0
-RefusesLabels zero targets before fault = ⊥
-RefusesLabels (suc count) targets before fault =
-    RefusesNumber Unsigned 32 before fault
-    ⊎ ((label : ℕ) × (there : Input) × ReadsNumber Unsigned 32 before label there × RefusesLabels count (targets ++ label ∷ []) there fault)
+-- so many labels stand there, which come behind those before them
+abbrev pub AddsLabels : (count : ℕ) (targets : List ℕ) (before : Input) (all : List ℕ) (after : Input) → Type 0
+AddsLabels count targets before all after =
+    (labels : List ℕ) × (length labels ≡ count) × ReadsLabels labels before after × (all ≡ targets ++ labels)
+
+-- fewer stand there, and what comes next is no number
+abbrev pub RefusesLabels : (count : ℕ) (before : Input) (fault : Fault) → Type 0
+RefusesLabels count before fault =
+    (labels : List ℕ) × (there : Input) × (length labels < count) × ReadsLabels labels before there × RefusesNumber Unsigned 32 there fault
 
 -- the operator, whose labels begin behind those before it
 abbrev pub table : (targets : List ℕ) (count : ℕ) (all : List ℕ) → Parsed
 table targets count all = (item.Operator (op.BrTable (length targets) count), all)
 
--- what stands behind the byte of an item; so many blocks are open
+-- what stands behind the byte of an item, where so many blocks are open: the default of a `br_table` is the last of its labels
 abbrev pub ReadsForm : Form → (depth : ℕ) (targets : List ℕ) (before : Input) (parsed : Parsed) (after : Input) → Type 0
 ReadsForm (Operator layout) depth targets before parsed after =
     (operator : Op) × ReadsLayout layout before operator after × (parsed ≡ (item.Operator operator, targets))
 ReadsForm Labels depth targets before parsed after =
     (count : ℕ) × (there : Input) × ReadsNumber Unsigned 32 before count there × ((count ≤ most_targets)
-    × ((all : List ℕ) × ReadsLabels (suc count) targets there all after × (parsed ≡ table targets count all)))
+    × ((all : List ℕ) × AddsLabels (suc count) targets there all after × (parsed ≡ table targets count all)))
 ReadsForm (Opens opener) depth targets before parsed after =
-    (depth + 1 ≤ most_blocks) × ((result : _) × ReadsBlockType before result after × (parsed ≡ (item.Opens opener result, targets)))
+    (depth + 1 ≤ most_blocks) × ((result : Option ValType) × ReadsBlockType before result after × (parsed ≡ (item.Opens opener result, targets)))
 ReadsForm Turn depth targets before parsed after = (parsed ≡ (item.Turn, targets)) × (after ≡ before)
 ReadsForm Close depth targets before parsed after = (parsed ≡ (item.Close, targets)) × (after ≡ before)
 
@@ -62,7 +66,7 @@ RefusesForm Labels depth targets at before fault =
     RefusesNumber Unsigned 32 before fault
     ⊎ ((count : ℕ) × (there : Input) × ReadsNumber Unsigned 32 before count there
     × (((most_targets < count) × (fault ≡ fault_at 12 before.at))
-    ⊎ ((count ≤ most_targets) × RefusesLabels (suc count) targets there fault)))
+    ⊎ ((count ≤ most_targets) × RefusesLabels (suc count) there fault)))
 RefusesForm (Opens opener) depth targets at before fault =
     ((most_blocks < depth + 1) × (fault ≡ fault_at 10 at))
     ⊎ ((depth + 1 ≤ most_blocks) × RefusesBlockType before fault)

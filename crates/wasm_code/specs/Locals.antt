@@ -1,5 +1,5 @@
 -- The locals that a body declares, in groups of one type (WebAssembly Core 1.0, section 5.5.13).
-use Rattle.std.specs.Prelude.{◌≡◌, ◌⊎◌, ℕ, suc, zero, ◌+◌, ◌<◌, ◌≤◌, List, [], ◌++◌, length, replicate, Ok}
+use Rattle.std.specs.Prelude.{◌≡◌, ◌⊎◌, ℕ, suc, zero, ◌+◌, ◌<◌, ◌≤◌, List, [], ◌∷◌, ◌++◌, length, replicate, Ok}
 use Rattle.wasm_ops.specs.declared.faults.Fault.{Fault}
 use Rattle.wasm_ops.specs.declared.types.ValType.{ValType}
 use Rattle.wasm_ops.specs.declared.numbers.Sign.TheVariants.{Unsigned}
@@ -12,13 +12,28 @@ use Rattle.wasm_code.specs.Types.{ReadsType, RefusesType, type_from}
 abbrev pub most_locals : ℕ
 most_locals = 1024
 
--- a group: a count and a type, written out behind the locals before it
-abbrev pub ReadsGroup : (locals : List ValType) (before : Input) (more : List ValType) (after : Input) → Type 0
-ReadsGroup locals before more after =
-    (count : ℕ) × (there : Input) × ReadsNumber Unsigned 32 before count there × ((length locals + count ≤ most_locals)
-    × ((value : ValType) × ReadsType there value after × (more ≡ locals ++ replicate count value)))
+-- a group: so many locals of one type
+pub record Group : Type 0 where
+  pub count : ℕ
+  pub value : ValType
 
--- its count is refused or too large, or its type is none
+-- groups, one behind another, each a count and a type
+abbrev pub ReadsGroups : (groups : List Group) (before after : Input) → Type 0
+ReadsGroups [] before after = after ≡ before
+ReadsGroups (group ∷ groups) before after =
+    (there : Input) × (behind : Input) × ReadsNumber Unsigned 32 before group.count there × ReadsType there group.value behind × ReadsGroups groups behind after
+
+-- the type of each local
+abbrev pub written_out : (groups : List Group) → List ValType
+written_out [] = []
+written_out (group ∷ groups) = replicate group.count group.value ++ written_out groups
+
+-- so many groups stand there, whose locals come behind those before them, and there are not too many
+abbrev pub AddsGroups : (count : ℕ) (locals : List ValType) (before : Input) (all : List ValType) (after : Input) → Type 0
+AddsGroups count locals before all after =
+    (groups : List Group) × (length groups ≡ count) × ReadsGroups groups before after × (all ≡ locals ++ written_out groups) × (length all ≤ most_locals)
+
+-- no group stands behind these locals: its count is refused, or there would be too many with it, or its type is none
 abbrev pub RefusesGroup : (locals : List ValType) (before : Input) (fault : Fault) → Type 0
 RefusesGroup locals before fault =
     RefusesNumber Unsigned 32 before fault
@@ -26,23 +41,16 @@ RefusesGroup locals before fault =
     × (((most_locals < length locals + count) × (fault ≡ fault_at 11 before.at))
     ⊎ ((length locals + count ≤ most_locals) × RefusesType there fault)))
 
--- so many groups one behind another
-abbrev pub ReadsGroups : (groups : ℕ) (locals : List ValType) (before : Input) (all : List ValType) (after : Input) → Type 0
-ReadsGroups zero locals before all after = (all ≡ locals) × (after ≡ before)
-ReadsGroups (suc groups) locals before all after =
-    (more : List ValType) × (there : Input) × ReadsGroup locals before more there × ReadsGroups groups more there all after
-
--- one of them is refused, behind those that stand
-abbrev pub RefusesGroups : (groups : ℕ) (locals : List ValType) (before : Input) (fault : Fault) → Type 0
-RefusesGroups zero locals before fault = ⊥
-RefusesGroups (suc groups) locals before fault =
-    RefusesGroup locals before fault
-    ⊎ ((more : List ValType) × (there : Input) × ReadsGroup locals before more there × RefusesGroups groups more there fault)
+-- fewer stand there, and the next one is refused
+abbrev pub RefusesGroups : (count : ℕ) (locals : List ValType) (before : Input) (fault : Fault) → Type 0
+RefusesGroups count locals before fault =
+    (groups : List Group) × (here : Input) × (length groups < count) × ReadsGroups groups before here
+    × (length (locals ++ written_out groups) ≤ most_locals) × RefusesGroup (locals ++ written_out groups) here fault
 
 -- their number, and the groups
 abbrev pub ReadsLocals : (before : Input) (all : List ValType) (after : Input) → Type 0
 ReadsLocals before all after =
-    (groups : ℕ) × (there : Input) × ReadsNumber Unsigned 32 before groups there × ReadsGroups groups [] there all after
+    (groups : ℕ) × (there : Input) × ReadsNumber Unsigned 32 before groups there × AddsGroups groups [] there all after
 
 abbrev pub RefusesLocals : (before : Input) (fault : Fault) → Type 0
 RefusesLocals before fault =
@@ -51,13 +59,13 @@ RefusesLocals before fault =
 
 -- The same as functions.
 
-abbrev pub written_out : (locals : List ValType) (count : ℕ) → ValType → List ValType
-written_out locals count value = locals ++ replicate count value
+abbrev pub with_group : (locals : List ValType) (count : ℕ) → ValType → List ValType
+with_group locals count value = locals ++ replicate count value
 
 abbrev pub group_from : (locals : List ValType) → Input → Read (List ValType)
 group_from locals before =
     and_then (number_from Unsigned 32 before) (λ count there.
-    within most_locals (length locals + count) (fault_at 11 before.at) (as_part (written_out locals count) (type_from there)))
+    within most_locals (length locals + count) (fault_at 11 before.at) (as_part (with_group locals count) (type_from there)))
 
 abbrev pub groups_from : (groups : ℕ) (locals : List ValType) → Input → Read (List ValType)
 groups_from zero locals before = Ok (locals, before)

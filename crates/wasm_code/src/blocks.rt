@@ -4,7 +4,7 @@ use wasm_ops::ValType;
 
 /// What of a block is being read.
 #[derive(Clone, Copy)]
-pub enum Part {
+pub(crate) enum Part {
     /// The body of a `block`.
     Block,
 
@@ -20,7 +20,7 @@ pub enum Part {
 
 /// An open block.
 #[derive(Clone, Copy)]
-pub struct OpenBlock {
+pub(crate) struct OpenBlock {
     /// What of it is being read.
     pub(crate) part: Part,
 
@@ -33,7 +33,7 @@ pub struct OpenBlock {
 
 /// Where an item stands.
 #[derive(Clone, Copy)]
-pub enum Standing {
+pub(crate) enum Standing {
     /// More items follow it.
     Inside,
 

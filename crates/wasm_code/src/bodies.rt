@@ -18,7 +18,7 @@ use wasm_ops::{Body, Cursor, Fault, Items, Op};
 ///
 /// It has at most 1,024 locals, blocks at most 1,000 deep, and at most 4,096 targets of a `br_table` beside its default.
 /// Else the first refusal in reading order is answered, with its place counted from the first byte.
-/// It is one pass over the bytes, and takes memory for the answer alone.
+/// It is one pass over the bytes, which takes memory for the answer and for the blocks that are open.
 pub fn read_body(alloc: Global, bytes: &[u8]) -> Result<Body, CodeFault>
     requires size { length bytes.now ≤ 2 ^ 22 }
     ensures found { IfOk result (λ body. SpellsBody bytes.now body) }

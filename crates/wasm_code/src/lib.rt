@@ -18,7 +18,6 @@ mod layouts;
 mod locals;
 mod value_types;
 
-pub use blocks::{OpenBlock, Part, Standing};
 pub use bodies::read_body;
 pub use faults::CodeFault;
 pub use forms::{Form, Indexed, Layout};

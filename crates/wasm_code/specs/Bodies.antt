@@ -58,7 +58,8 @@ beginning bytes = record { at = 0; left = bytes }
 abbrev pub first_place : Input → Place
 first_place start = record { blocks = []; targets = []; ahead = start }
 
--- locals, then the items of a structured sequence, then the closing `end` where no block is open, and no byte behind it
+-- Locals, then the items of a structured sequence, then the closing `end` where no block is open, and no byte behind it.
+-- That no block is open there, and that no operator of its own opens or closes one, follows from the rest: it is told for those who use it.
 pub record SpellsBody (bytes : List ℕ) (body : Body) : Type 0 where
   pub start : Input
   pub sequence : Sequence

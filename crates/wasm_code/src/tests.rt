@@ -342,16 +342,42 @@ const COPY: [u8; 117] = [
     0x80, 0x80, 0x80, 0x00, 0x0B,
 ];
 
-#[test]
-fn every_cut_is_cut_short(rt: HostRuntime) -> Result<(), Fail> {
-    let body = read_body(rt.alloc(), &COPY)?;
-    assert_eq!(rt; body.ops.as_slice().len(), 49);
-    for len in 0..COPY.len() {
+// A body of each kind of locals, block and immediate, with padded numbers.
+const BLOCKS: [u8; 38] = [
+    0x02, 0x02, 0x7E, 0x81, 0x00, 0x7F, 0x02, 0x7F, 0x03, 0x40, 0x01, 0x0B, 0x41, 0xC0, 0xBB, 0x78,
+    0x0B, 0x04, 0x7E, 0x42, 0x80, 0x7F, 0x05, 0x11, 0x87, 0x00, 0x00, 0x42, 0x02, 0x0B, 0x04, 0x40,
+    0x0B, 0x3F, 0x00, 0x40, 0x00, 0x0B,
+];
+
+// A table of labels with padded numbers, between operators that are never reached.
+const TABLE: [u8; 19] = [
+    0x00, 0x0F, 0x0E, 0x82, 0x00, 0x01, 0x80, 0x00, 0x03, 0x37, 0x03, 0xFF, 0xFF, 0x03, 0x20, 0x80,
+    0x80, 0x00, 0x0B,
+];
+
+// Bytes of a body with so many operators; each front of them is cut short where it ends.
+fn expect_cut_short(
+    rt: &impl Abort,
+    alloc: Global,
+    bytes: &[u8],
+    operators: usize,
+) -> Result<(), Fail> {
+    assert!(rt; bytes.len() < 10_000);
+    let body = read_body(alloc, bytes)?;
+    assert_eq!(rt; body.ops.as_slice().len(), operators);
+    for len in 0..bytes.len() {
         let want = CodeFault::Bytes(Fault {
             number: 1,
             place: len as u32,
         });
-        assert_eq!(rt; refusal(&rt, rt.alloc(), &COPY[..len]), Some(want));
+        assert_eq!(rt; refusal(rt, alloc, &bytes[..len]), Some(want));
     }
     Ok(())
+}
+
+#[test]
+fn every_cut_is_cut_short(rt: HostRuntime) -> Result<(), Fail> {
+    expect_cut_short(&rt, rt.alloc(), &COPY, 49)?;
+    expect_cut_short(&rt, rt.alloc(), &BLOCKS, 17)?;
+    expect_cut_short(&rt, rt.alloc(), &TABLE, 5)
 }

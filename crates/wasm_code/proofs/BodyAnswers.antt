@@ -20,6 +20,7 @@ use Rattle.wasm_code.proofs.ItemLaws.{locals_decides}
 use Rattle.wasm_code.proofs.Completions.{sequence_of}
 use Rattle.wasm_code.proofs.LayingLaws.{laid}
 use Rattle.wasm_code.proofs.BodyLaws.{body_or_fault, one_body, one_refusal}
+use Rattle.wasm_code.proofs.RefusalPlaces.{body_placed}
 
 pub spelt
     : (bytes : List ℕ) (start : Input) (locals : List ValType) (ops : List Op) (targets : List ℕ)
@@ -64,6 +65,15 @@ operators_refused bytes start locals (Bytes fault) read refuses =
       refused = refuses.refused;
     }
 operators_refused bytes start locals NoMemory read refuses = tt
+
+-- a refusal has its place within the bytes, by the law
+
+pub place_given
+    : (bytes : List ℕ) (result : Result Body CodeFault) → IfErr result (λ fault. IsAmong fault (RefusesBody bytes))
+    → IfErr result (λ fault. IsAmong fault (λ f. f.place ≤ length bytes))
+place_given bytes (Ok read) refused = tt
+place_given bytes (Err (Bytes fault)) refused = body_placed bytes fault refused
+place_given bytes (Err NoMemory) refused = tt
 
 -- both ways from one, by the laws
 

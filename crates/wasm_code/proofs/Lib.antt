@@ -10,4 +10,5 @@ pub mod LoopSteps
 pub mod PlacedLaws
 pub mod ItemSteps
 pub mod OperatorSteps
+pub mod RefusalPlaces
 pub mod BodyAnswers

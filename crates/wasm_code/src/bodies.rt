@@ -17,12 +17,13 @@ use wasm_ops::{Body, Cursor, Fault, Items, Op};
 /// The body that the bytes spell, all of them.
 ///
 /// It has at most 1,024 locals, blocks at most 1,000 deep, and at most 4,096 targets of a `br_table` beside its default.
-/// Else the first refusal in reading order is answered, with its place counted from the first byte.
+/// Else the first refusal in reading order is answered, with its place counted from the first byte. The place of a refusal is at most the number of bytes.
 /// It is one pass over the bytes, which takes memory for the answer and for the blocks that are open.
 pub fn read_body(alloc: Global, bytes: &[u8]) -> Result<Body, CodeFault>
     requires size { length bytes.now ≤ 2 ^ 22 }
     ensures found { IfOk result (λ body. SpellsBody bytes.now body) }
     ensures refused { IfErr result (λ fault. IsAmong fault (RefusesBody bytes.now)) }
+    ensures placed { IfErr result (λ fault. IsAmong fault (λ f. f.place ≤ length bytes.now)) }
 
     // No other answer is possible, but for want of memory.
     ensures only { (body : BodyValue) → SpellsBody bytes.now body → GivesValue result body }

@@ -1,4 +1,5 @@
 use Rattle.wasm_code.proofs.BodyLaws.{either, body_or_fault, one_body, one_refusal}
+use Rattle.wasm_code.proofs.RefusalPlaces.{body_placed}
 use Rattle.wasm_code.proofs.laws.body_or_refusal.Goals as goal
 
 pub returns-clause-one_holds : goal.returns-clause-one_holds
@@ -12,3 +13,6 @@ returns-clause-one_body c = one_body
 
 pub returns-clause-one_fault : goal.returns-clause-one_fault
 returns-clause-one_fault c = one_refusal
+
+pub returns-clause-placed : goal.returns-clause-placed
+returns-clause-placed c = body_placed

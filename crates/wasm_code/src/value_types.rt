@@ -6,8 +6,11 @@ ghost use Rattle.wasm_code.specs.Types.{type_of, result_of, no_type, type_from, 
 
 use wasm_ops::{Cursor, Fault, ValType};
 
-/// A value type. Refused: 1 where no byte is left, 7 for a float type, 8 for a byte that is no type.
-pub(crate) fn value_type(cursor: &mut Cursor<'_>) -> Result<ValType, Fault>
+/// The value type that the next byte is (WebAssembly Core 1.0, section 5.3.1): `7F` for `i32`, `7E` for `i64`.
+///
+/// Refused: 1 where no byte is left, at the window's end; 7 for a float type (`7D` for `f32`, `7C` for `f64`) and 8 for a byte that is no type, both at that byte.
+/// Where it is refused, nothing is said of where the cursor stands.
+pub fn value_type(cursor: &mut Cursor<'_>) -> Result<ValType, Fault>
     ensures { Tells (λ value. (value, cursor.new)) result (type_from cursor.old) }
 {
     let at = cursor.at();

@@ -1,0 +1,7 @@
+pub mod Bodies
+pub mod Contents
+pub mod Modules
+pub mod Outcome
+pub mod Parts
+pub mod Sections
+pub mod Syntax

@@ -1,0 +1,92 @@
+-- The sections of a module, in their order (WebAssembly Core 1.0, sections 5.5.2 and 5.5.3).
+use Rattle.std.specs.Prelude.{◌≡◌, ℕ, ◌==◌, nat_lt, if◌then◌else◌, List, ◌++◌, length, Option, Some, None}
+use Rattle.wasm_ops.specs.declared.faults.Fault.{Fault}
+use Rattle.wasm_ops.specs.declared.modules.Module.{Module}
+use Rattle.wasm_ops.specs.Input.{Input}
+use Rattle.wasm_reader.specs.declared.sections.Part.{Part}
+use Rattle.wasm_reader.specs.declared.sections.Part.TheVariants as part
+use Rattle.wasm_reader.specs.declared.sections.Section.{Section}
+use Rattle.wasm_reader.specs.declared.sections.Section.TheVariants as section
+use Rattle.wasm_reader.specs.declared.sections.Progress.{Progress}
+use Rattle.wasm_reader.specs.Syntax.{Syntax, byte, bytes, number, given, seen, checked, or_fault, inside, refused_as, exactly, ◌⨾◌}
+use Rattle.wasm_reader.specs.Parts.{name}
+use Rattle.wasm_reader.specs.Contents.{types, imports, functions, tables, memories, globals, exports, elements, segments}
+use Rattle.wasm_reader.specs.Bodies.{in_section, section_fault, bodies}
+
+-- the section with an id
+abbrev pub section_of : (id : ℕ) → Option Section
+section_of id =
+    if id == 0 then Some section.Custom
+    else (if id == 1 then Some (section.Part part.Types)
+    else (if id == 2 then Some (section.Part part.Imports)
+    else (if id == 3 then Some (section.Part part.Functions)
+    else (if id == 4 then Some (section.Part part.Tables)
+    else (if id == 5 then Some (section.Part part.Memories)
+    else (if id == 6 then Some (section.Part part.Globals)
+    else (if id == 7 then Some (section.Part part.Exports)
+    else (if id == 8 then Some (section.Part part.Start)
+    else (if id == 9 then Some (section.Part part.Elements)
+    else (if id == 10 then Some (section.Part part.Bodies)
+    else (if id == 11 then Some (section.Part part.Segments)
+    else None)))))))))))
+
+abbrev pub id_of : Part → ℕ
+id_of part.Types = 1
+id_of part.Imports = 2
+id_of part.Functions = 3
+id_of part.Tables = 4
+id_of part.Memories = 5
+id_of part.Globals = 6
+id_of part.Exports = 7
+id_of part.Start = 8
+id_of part.Elements = 9
+id_of part.Bodies = 10
+id_of part.Segments = 11
+
+-- a custom section stands anywhere, and any other one behind those with lower ids
+abbrev pub rising : (last : ℕ) → Section → Option Section
+rising last section.Custom = Some section.Custom
+rising last (section.Part p) = if nat_lt last (id_of p) then Some (section.Part p) else None
+
+abbrev pub section_id : (last : ℕ) → Syntax Section
+section_id last = checked (rising last) (or_fault 17) (checked section_of (or_fault 19) byte)
+
+-- the module with one more part, from what stands in the section
+abbrev pub part_of : Part → Module → Syntax Module
+part_of part.Types m = seen (λ xs. record m { types = xs }) types
+part_of part.Imports m = seen (λ xs. record m { imports = xs }) imports
+part_of part.Functions m = seen (λ xs. record m { functions = xs }) (functions m.imports)
+part_of part.Tables m = seen (λ xs. record m { tables = xs }) tables
+part_of part.Memories m = seen (λ xs. record m { memories = xs }) memories
+part_of part.Globals m = seen (λ xs. record m { globals = xs }) (globals m.imports)
+part_of part.Exports m = seen (λ xs. record m { exports = xs }) exports
+part_of part.Start m = seen (λ index. record m { start = Some index }) number
+part_of part.Elements m = seen (λ xs. record m { elements = xs }) elements
+part_of part.Bodies m = seen (λ xs. record m { bodies = xs }) (bodies (length m.functions))
+part_of part.Segments m = seen (λ xs. record m { segments = xs }) segments
+
+-- how a fault in the section is told: the section of bodies tells those of its own and those of its bodies apart by itself
+abbrev pub told_in : Part → Fault → Fault
+told_in part.Bodies fault = fault
+told_in p fault = section_fault fault
+
+abbrev pub content : Part → Module → Syntax Module
+content p m = refused_as (told_in p) (part_of p m)
+
+abbrev pub after_part : Part → Module → Progress
+after_part p m = record { last = id_of p; parts = m }
+
+-- what stands in a section: a custom one begins with a name, and its other bytes are not read; any other one is read to its end
+abbrev pub section_content : Section → Progress → Syntax Progress
+section_content section.Custom so_far = in_section (name ⨾ λ own. given so_far)
+section_content (section.Part p) so_far = seen (after_part p) (exactly 18 (content p so_far.parts))
+
+-- a section: its id, the size of what it holds, and that
+abbrev pub one_section : (so_far : Progress) → Syntax Progress
+one_section so_far = section_id so_far.last ⨾ λ s. number ⨾ λ size. inside (bytes size) (section_content s so_far)
+
+-- what lies ahead are the bytes of a file from a place on, up to its end
+pub record IsTail (bytes : List ℕ) (here : Input) : Type 0 where
+  pub passed : List ℕ
+  pub cut : bytes ≡ passed ++ here.left
+  pub place : here.at ≡ length passed

@@ -1,0 +1,13 @@
+//! Laws of the definitions. The function does nothing: its contract is the law.
+ghost use Rattle.std.specs.Prelude.{◌≡◌, ◌⊎◌, ℕ, List};
+ghost use Rattle.wasm_ops.specs.declared.faults.Fault.{Fault};
+ghost use Rattle.wasm_ops.specs.declared.modules.Module.{Module};
+ghost use Rattle.wasm_reader.specs.Modules.{SpellsModule, RefusesModule};
+
+/// Whatever the bytes are, they spell a module or are refused as one: one of the two, with one module or with one number and place.
+pub fn module_or_refusal()
+    ensures one_holds { (bytes : List ℕ) → ((parts : Module) × SpellsModule bytes parts) ⊎ ((fault : Fault) × RefusesModule bytes fault) }
+    ensures never_both { (bytes : List ℕ) (parts : Module) (fault : Fault) → SpellsModule bytes parts → RefusesModule bytes fault → ⊥ }
+    ensures one_module { (bytes : List ℕ) (parts other : Module) → SpellsModule bytes parts → SpellsModule bytes other → parts ≡ other }
+    ensures one_fault { (bytes : List ℕ) (fault other : Fault) → RefusesModule bytes fault → RefusesModule bytes other → fault ≡ other }
+{}

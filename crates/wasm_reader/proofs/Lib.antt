@@ -1,8 +1,13 @@
 pub mod BodyLaws
 pub mod ContentLaws
+pub mod ImportCounts
 pub mod ItemLaws
+pub mod Loops
+pub mod ModuleAnswers
 pub mod ModuleLaws
 pub mod PartLaws
 pub mod SectionLaws
+pub mod SectionSteps
 pub mod StepLaws
 pub mod SyntaxLaws
+pub mod Tails

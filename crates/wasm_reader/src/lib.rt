@@ -1,15 +1,22 @@
 //! Whole modules as a file's bytes spell them.
 //!
-//! `specs/` has what bytes spell, and which are refused (WebAssembly Core 1.0, section 5.5, without floating point): `Syntax.antt` the few ways in which things of a kind are put together from others, each with what is read, what is refused and the same as a function; and by them each part of a module, each section, and the whole.
-//! `laws.rt` says that of any bytes one of the two holds, in one way.
-//! It stands on `wasm_ops` and `wasm_code`. The reader is not there yet.
+//! `read_module` reads the bytes of a file, and answers the module exactly where they spell one within the limits; else it says with which number and at which place they are refused (WebAssembly Core 1.0, section 5.5, without floating point).
+//! `specs/` has what bytes spell: `Syntax.antt` the few ways in which things of a kind are put together from others, each with what is read, what is refused and the same as a function; and by them each part of a module, each section, and the whole.
+//! It stands on `wasm_ops`, whose cursor reads the numbers, and on `wasm_code`, which reads each body.
 #![tactic(auto)]
 
+mod bodies;
 mod faults;
 mod imports;
+mod items;
 pub mod laws;
+mod modules;
+mod parts;
 mod sections;
+mod sizes;
+mod vectors;
 
 pub use faults::ReadFault;
 pub use imports::ImportKind;
+pub use modules::read_module;
 pub use sections::{Part, Progress, Section};

@@ -20,3 +20,6 @@ pub use faults::ReadFault;
 pub use imports::ImportKind;
 pub use modules::read_module;
 pub use sections::{Part, Progress, Section};
+
+#[cfg(test)]
+mod tests;

@@ -1,0 +1,106 @@
+#!/usr/bin/env python3
+"""Times the built program on modules of nearly 4 MiB and of half that size.
+
+    read_module.py       builds the program where it is not built, by the script `sledge` at the top
+
+For each kind of module it prints both times in milliseconds and their ratio: where reading is linear, the
+ratio is 2. A time is the least of several runs, without that of a file which is the header alone. The
+modules are read and not run, so each run has to end with `module 90 0 0` and exit status 5.
+"""
+
+import os
+import subprocess
+import sys
+import tempfile
+import time
+
+TOP = os.path.join(os.path.dirname(os.path.abspath(__file__)), "..")
+SCRIPT = os.path.join(TOP, "sledge")
+PROGRAM = os.path.join(TOP, "crates", "sledge", "out", "sledge")
+RUNS = 7
+MOST_BYTES = 4 << 20
+# Room for the header, the other sections, and the ids and sizes of the long ones.
+ROOM = 128
+
+HEADER = b"\0asm\x01\0\0\0"
+TYPES = bytes.fromhex("01 04 01 60 00 00")
+CONST_AND_DROP = bytes.fromhex("41 07 1A")
+END = b"\x0b"
+
+
+def number(value):
+    """An unsigned LEB128 number, in as few bytes as may be."""
+    spelt = bytearray()
+    while value > 127:
+        spelt.append(value & 127 | 128)
+        value >>= 7
+    spelt.append(value)
+    return bytes(spelt)
+
+
+def sized(content):
+    return number(len(content)) + content
+
+
+def section(number_of_it, content):
+    return bytes([number_of_it]) + sized(content)
+
+
+def functions(bodies):
+    """A module with these bodies, which exports nothing."""
+    count = number(len(bodies))
+    indices = section(3, count + bytes(len(bodies)))
+    return HEADER + TYPES + indices + section(10, count + b"".join(sized(body) for body in bodies))
+
+
+def many_functions(size):
+    """Bodies of 419 bytes, so that 4 MiB has nearly as many functions as a module may have, which is 10,000."""
+    body = b"\0" + CONST_AND_DROP * 139 + END
+    return functions([body] * ((size - ROOM) // (len(sized(body)) + 1)))
+
+
+def one_body(size):
+    return functions([b"\0" + CONST_AND_DROP * ((size - ROOM) // len(CONST_AND_DROP)) + END])
+
+
+def one_custom_section(size):
+    return HEADER + section(0, sized(b"long") + bytes(size - ROOM))
+
+
+KINDS = [
+    ("many functions", many_functions),
+    ("one long body", one_body),
+    ("one long custom section", one_custom_section),
+]
+
+
+def least_time(folder, content):
+    """The least time of several runs on a module with these bytes, in milliseconds."""
+    with open(os.path.join(folder, "module"), "wb") as file:
+        file.write(content)
+    least = None
+    for _ in range(RUNS):
+        begin = time.perf_counter()
+        done = subprocess.run([PROGRAM, "invoke", "module", "body", "10"], cwd=folder, capture_output=True, timeout=120)
+        taken = (time.perf_counter() - begin) * 1000
+        answer = (done.returncode, done.stdout, done.stderr)
+        assert answer == (5, b"", b"module 90 0 0\n"), answer
+        least = taken if least is None else min(least, taken)
+    return least
+
+
+def main():
+    subprocess.run([SCRIPT, "--version"], stdout=subprocess.DEVNULL, check=True)
+    with tempfile.TemporaryDirectory() as folder:
+        with open(os.path.join(folder, "body"), "wb"):
+            pass
+        start = least_time(folder, HEADER)
+        print(f"the header alone: {start:.1f} ms")
+        for name, module in KINDS:
+            half, whole = module(MOST_BYTES // 2), module(MOST_BYTES)
+            assert MOST_BYTES - 1024 < len(whole) <= MOST_BYTES, len(whole)
+            times = [max(least_time(folder, content) - start, 0.001) for content in (half, whole)]
+            print(f"{name}: {len(half)} bytes {times[0]:.1f} ms, {len(whole)} bytes {times[1]:.1f} ms, ratio {times[1] / times[0]:.2f}")
+
+
+sys.exit(main())

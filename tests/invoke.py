@@ -16,7 +16,7 @@ PROGRAM = os.path.join(TOP, "sledge")
 
 
 def module(body, types="01 04 01 60 00 00"):
-    """The module of one function with this body, in hexadecimal, that is exported as `_start`."""
+    """The module of one function with this body and this type section, in hexadecimal, that is exported as `_start`."""
     code = bytes.fromhex(body)
     size = len(code) + 2
     return (
@@ -34,8 +34,16 @@ FILES = {
     "nops": module("01 01 01"),
     "div": module("41 07 41 00 6E 1A"),
     "padded": module("", types="01 05 81 00 60 00 00"),
+    "custom": module("", types="00 02 01 61 01 04 01 60 00 00"),
     "untyped": module("1A"),
-    "cut": module("")[:30],
+    "other_version": b"\x00asm\x02\x00\x00\x00",
+    "header": module("")[:8],
+    "cut": module("")[:29],
+    "bodiless": module("")[:30],
+    "spare": module("", types="01 08 81 80 80 80 10 60 00 00"),
+    "long_leb": module("", types="01 09 81 80 80 80 80 00 60 00 00"),
+    "float": module("92"),
+    "float_type": module("", types="01 05 01 60 01 7D 00"),
     "empty": b"",
     "full": bytes(1 << 20),
     "long": bytes((1 << 20) + 1),
@@ -65,14 +73,23 @@ ROWS = [
     ("invoke div empty 10", 0, trap("integer divide by zero"), "units 3\n"),
     ("invoke div empty 2", 0, SPENT, "units 2\n"),
     ("invoke padded empty 10", 0, OK, "units 0\n"),
+    ("invoke custom empty 10", 0, OK, "units 0\n"),
     ("invoke m0 full 10", 0, OK, "units 0\n"),
     ("invoke m0 empty 1099511627776", 0, OK, "units 0\n"),
     ("invoke m0 empty 00000000000000000000", 0, OK, "units 0\n"),
     ("invoke m2 empty 5", 5, b"", "module 90 0 0\n"),
     ("invoke untyped empty 5", 5, b"", "module 90 0 0\n"),
-    ("invoke cut empty 5", 5, b"", "module 90 0 0\n"),
-    ("invoke empty empty 5", 5, b"", "module 90 0 0\n"),
-    ("invoke huge empty 5", 5, b"", "module 90 0 0\n"),
+    ("invoke header empty 5", 5, b"", "module 90 0 0\n"),
+    ("invoke other_version empty 5", 5, b"", "module 16 0 4\n"),
+    ("invoke cut empty 5", 5, b"", "module 1 0 29\n"),
+    ("invoke bodiless empty 5", 5, b"", "module 20 0 30\n"),
+    ("invoke spare empty 5", 5, b"", "module 3 0 10\n"),
+    ("invoke long_leb empty 5", 5, b"", "module 2 0 10\n"),
+    ("invoke float empty 5", 5, b"", "module 5 0 35\n"),
+    ("invoke float_type empty 5", 5, b"", "module 7 0 13\n"),
+    ("invoke empty empty 5", 5, b"", "module 1 0 0\n"),
+    ("invoke huge empty 5", 5, b"", "module 21 0 0\n"),
+    ("invoke cut nofile 5", 5, b"", "module 1 0 29\n"),
     ("invoke m2 nofile 5", 5, b"", "module 90 0 0\n"),
     ("invoke m0 long 5", 6, b"", "recording 76\n"),
     ("invoke nofile empty 10", 3, b"", "read nofile\n"),

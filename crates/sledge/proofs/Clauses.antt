@@ -34,8 +34,9 @@ from_body_kind ops words (Some body) e d = body_kind (nat_lt body_limit (length 
 
 from_module_kind : (words : InvokeWords) (file body : Option (List ℕ)) (e : Ended) → EndsFromModule words file body e → Kind e
 from_module_kind words None body e d = Unread words.module_name d
-from_module_kind words (Some file) body e (inl d) = from_body_kind d.0 words body e d.2
-from_module_kind words (Some file) body e (inr d) = BadModule 0 90 0 d.1
+from_module_kind words (Some file) body e (inl d) = BadModule 0 d.0.number d.0.place d.2
+from_module_kind words (Some file) body e (inr (inl d)) = BadModule 0 90 0 d.1
+from_module_kind words (Some file) body e (inr (inr d)) = from_body_kind d.0 words body e d.2
 
 command_kind : (asked : Option Asked) (reads : Reads) (e : Ended) → EndsCommand asked reads e → Kind e
 command_kind None reads e d = NoShape d
@@ -118,8 +119,11 @@ from_body_answer words files file ops (Some body) e m b h d done = body_answer w
 
 from_module_answer : (words : InvokeWords) (files : Files) (file : Option (List ℕ)) (e : Ended) → files words.module_name ≡ file → EndsFromModule words file (files words.body_name) e → e.status ≡ status.Ok → IsAnswer words files e
 from_module_answer words files None e m d done = absurd (not_done status.ReadFault (codes "read " ++ words.module_name) e (λ bad. cc) d done)
-from_module_answer words files (Some file) e m (inl d) done = from_body_answer words files file d.0 (files words.body_name) e m d.1 refl d.2 done
-from_module_answer words files (Some file) e m (inr d) done = absurd (not_done (status.ModuleFault 0 90 0) (codes "module " ++ decimal 90 ++ codes " " ++ decimal 0 ++ codes " " ++ decimal 0) e (λ bad. cc) d.1 done)
+from_module_answer words files (Some file) e m (inl d) done =
+    absurd (not_done (status.ModuleFault 0 d.0.number d.0.place) (codes "module " ++ decimal d.0.number ++ codes " " ++ decimal 0 ++ codes " " ++ decimal d.0.place) e (λ bad. cc) d.2 done)
+from_module_answer words files (Some file) e m (inr (inl d)) done =
+    absurd (not_done (status.ModuleFault 0 90 0) (codes "module " ++ decimal 90 ++ codes " " ++ decimal 0 ++ codes " " ++ decimal 0) e (λ bad. cc) d.1 done)
+from_module_answer words files (Some file) e m (inr (inr d)) done = from_body_answer words files file d.0 (files words.body_name) e m d.1 refl d.2 done
 
 answer_leaves : (words : InvokeWords) (files : Files) (e : Ended) (out out' notes notes' : Option (List ℕ)) → IsAnswer words files e → Wrote e.text e.note out out' notes notes' → AnswersInvoke words files out out' notes notes'
 answer_leaves words files e out out' notes notes' a w = record {

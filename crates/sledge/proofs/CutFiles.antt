@@ -1,5 +1,5 @@
 -- A library hands over the front of a file that is too long: it is refused just as the whole file would be.
-use Rattle.std.proofs.Common.{◌≡◌, ℕ, ◌+◌, ◌≤◌, zero, suc, nat_lt, List, [], ◌++◌, append-nil, length, take, min, Option, None, Some, IsSome, refl, sym, ap, subst, inl, inr, ◌∙◌, arith}
+use Rattle.std.proofs.Common.{◌≡◌, ℕ, ◌+◌, ◌<◌, ◌≤◌, zero, suc, nat_lt, List, [], ◌++◌, append-nil, length, take, min, Option, None, Some, IsSome, refl, sym, ap, subst, inl, inr, ◌∙◌, arith}
 use Rattle.std.proofs.lemmas.Bool.Decides.{nat_tests}
 use Rattle.std.proofs.lemmas.List.{length-take, take-append-drop}
 use Rattle.std.proofs.Math.ListN.{drop_of_length-le}
@@ -7,10 +7,12 @@ use Rattle.std.specs.Bool.{MatchBool}
 use Rattle.std.specs.Option.{option_map}
 use Rattle.outside.specs.Faults.{Rose}
 use Rattle.outside.specs.Library.{Files, Held}
+use Rattle.wasm_ops.specs.declared.faults.Fault.{Fault}
 use Rattle.wasm_ops.specs.declared.operators.Op.{Op}
-use Rattle.sledge.specs.BuiltModule.{IsBuilt, module_limit}
+use Rattle.wasm_reader.specs.Modules.{RefusesModule, most_bytes}
+use Rattle.sledge.specs.BuiltModule.{IsBuilt, IsNotBuilt}
 use Rattle.sledge.specs.CommandLine.{InvokeWords}
-use Rattle.sledge.specs.Endings.{Ended, EndsAs, Reads, reads_of, FailedToRead, EndsInvoke, EndsFromModule, EndsFromBody, EndsOnBody, EndsRun, IsNotBuilt, body_limit, module_fault, recording_fault}
+use Rattle.sledge.specs.Endings.{Ended, EndsAs, Reads, reads_of, FailedToRead, EndsInvoke, EndsFromModule, EndsFromBody, EndsOnBody, EndsRun, body_limit, recording_fault}
 
 lt_min : (n l : ℕ) → nat_lt n (min (n + 1) l) ≡ nat_lt n l
 lt_min n l = grind (arith, nat_tests)
@@ -53,18 +55,27 @@ pub ends_on_body : (ops : List Op) (words : InvokeWords) (held : Option Files) (
 ends_on_body ops words None front names before now e h d = inr (record { reads = λ place name. Some front; given = λ place name. refl; ends = d })
 ends_on_body ops words (Some files) front names before now e h d = inr (body_of_file ops words (files words.body_name) front e h d)
 
-module_of_file : (words : InvokeWords) (file body : Option (List ℕ)) (front : List ℕ) (ops : List Op) (e : Ended) → option_map (take (module_limit + 1)) file ≡ Some front → IsBuilt front ops → EndsFromBody ops words body e → EndsFromModule words file body e
-module_of_file words None body front ops e h b d = absurd (cc)
-module_of_file words (Some whole) body front ops e h b d =
-    let cut : take (module_limit + 1) whole ≡ front = cc in
-    let same : front ≡ whole = whole_is_front module_limit whole front cut b.short in
-    inl (ops, subst (λ bytes. IsBuilt bytes ops) same b, d)
+-- a file is too long where its front is
+long_whole : (n : ℕ) (whole front : List ℕ) → take (n + 1) whole ≡ front → n < length front → n < length whole
+long_whole n whole front e h = omega (arith, sym (ap length e) ∙ length-take (n + 1) whole)
 
-not_built_of_file : (words : InvokeWords) (file body : Option (List ℕ)) (front : List ℕ) (e : Ended) → option_map (take (module_limit + 1)) file ≡ Some front → IsNotBuilt front → e ≡ module_fault 0 90 0 → EndsFromModule words file body e
-not_built_of_file words None body front e h n d = absurd (cc)
-not_built_of_file words (Some whole) body front e h n d =
-    let cut : take (module_limit + 1) whole ≡ front = cc in
-    inr (λ ops b. n ops (subst (λ bytes. IsBuilt bytes ops) (sym (front_is_whole module_limit whole front cut b.short)) b), d)
+refused_of_front : (whole front : List ℕ) (fault : Fault) → take (most_bytes + 1) whole ≡ front → RefusesModule front fault → RefusesModule whole fault
+refused_of_front whole front fault cut (inl long) = inl (record { large = long_whole most_bytes whole front cut long.large; told = long.told })
+refused_of_front whole front fault cut (inr item) = subst (λ (bytes : List ℕ). RefusesModule bytes fault) (whole_is_front most_bytes whole front cut item.small) (inr item)
+
+module_of_file : (words : InvokeWords) (file body : Option (List ℕ)) (front : List ℕ) (e : Ended) → option_map (take (most_bytes + 1)) file ≡ Some front → EndsFromModule words (Some front) body e → EndsFromModule words file body e
+module_of_file words None body front e h d = absurd (cc)
+module_of_file words (Some whole) body front e h (inl refused) =
+    let cut : take (most_bytes + 1) whole ≡ front = cc in
+    inl (refused.0, refused_of_front whole front refused.0 cut refused.1, refused.2)
+module_of_file words (Some whole) body front e h (inr (inl other)) =
+    let cut : take (most_bytes + 1) whole ≡ front = cc in
+    let same : front ≡ whole = whole_is_front most_bytes whole front cut other.0.spelt.small in
+    inr (inl (subst IsNotBuilt same other.0, other.1))
+module_of_file words (Some whole) body front e h (inr (inr built)) =
+    let cut : take (most_bytes + 1) whole ≡ front = cc in
+    let same : front ≡ whole = whole_is_front most_bytes whole front cut built.1.spelt.small in
+    inr (inr (built.0, subst (λ (bytes : List ℕ). IsBuilt bytes built.0) same built.1, built.2))
 
 rose_since : (before middle now : ℕ) → before ≤ middle → Rose middle now → Rose before now
 rose_since before middle now h r = omega arith
@@ -83,27 +94,21 @@ unfolding after_first
 after_first_given front reads given zero name = refl
 after_first_given front reads given (suc place) name = given (suc place) name
 
--- the ending on the module that the library gave, where it is of a kind that is run so far
-pub ends_on_module : (words : InvokeWords) (held held' : Option Files) (front : List ℕ) (ops : List Op) (names : List (List ℕ)) (before middle now : ℕ) (e : Ended)
-    → held' ≡ held → before ≤ middle → Held held words.module_name module_limit front → IsBuilt front ops
-    → EndsAs held' (λ reads. EndsFromBody ops words (reads 1 words.body_name)) names middle now e
+-- the ending on the module that the library gave is the ending on the file that it holds
+pub ends_on_module : (words : InvokeWords) (held held' : Option Files) (front : List ℕ) (names : List (List ℕ)) (before middle now : ℕ) (e : Ended)
+    → held' ≡ held → before ≤ middle → Held held words.module_name most_bytes front
+    → EndsAs held' (λ reads. EndsFromModule words (Some front) (reads 1 words.body_name)) names middle now e
     → EndsAs held (EndsInvoke words) names before now e
 unfolding after_first
-ends_on_module words None None front ops names before middle now e s l h b (inl f) = inl (failed_since names before middle now e l f)
-ends_on_module words None None front ops names before middle now e s l h b (inr d) = inr (record {
+ends_on_module words None None front names before middle now e s l h (inl f) = inl (failed_since names before middle now e l f)
+ends_on_module words None None front names before middle now e s l h (inr d) = inr (record {
   reads = after_first front d.reads;
   given = after_first_given front d.reads d.given;
-  ends = inl (ops, b, d.ends);
+  ends = d.ends;
 })
-ends_on_module words None (Some files') front ops names before middle now e s l h b d = cc
-ends_on_module words (Some files) None front ops names before middle now e s l h b d = cc
-ends_on_module words (Some files) (Some files') front ops names before middle now e s l h b (inl f) = inl (failed_since names before middle now e l f)
-ends_on_module words (Some files) (Some files') front ops names before middle now e s l h b (inr d) =
+ends_on_module words None (Some files') front names before middle now e s l h d = cc
+ends_on_module words (Some files) None front names before middle now e s l h d = cc
+ends_on_module words (Some files) (Some files') front names before middle now e s l h (inl f) = inl (failed_since names before middle now e l f)
+ends_on_module words (Some files) (Some files') front names before middle now e s l h (inr d) =
     let same : files' ≡ files = cc in
-    inr (module_of_file words (files words.module_name) (files words.body_name) front ops e h b (subst (λ fs. EndsFromBody ops words (fs words.body_name) e) same d))
-
--- and where it is not
-pub ends_not_built : (words : InvokeWords) (held : Option Files) (front : List ℕ) (names : List (List ℕ)) (before now : ℕ) (e : Ended)
-    → Held held words.module_name module_limit front → IsNotBuilt front → e ≡ module_fault 0 90 0 → EndsAs held (EndsInvoke words) names before now e
-ends_not_built words None front names before now e h n d = inr (record { reads = λ place name. Some front; given = λ place name. refl; ends = inr (n, d) })
-ends_not_built words (Some files) front names before now e h n d = inr (not_built_of_file words (files words.module_name) (files words.body_name) front e h n d)
+    inr (module_of_file words (files words.module_name) (files words.body_name) front e h (subst (λ fs. EndsFromModule words (Some front) (fs words.body_name) e) same d))

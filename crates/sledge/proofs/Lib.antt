@@ -1,12 +1,9 @@
-pub mod BuiltModules
 pub mod Clauses
 pub mod CutFiles
 pub mod Decimals
 pub mod Exactly
-pub mod Forms
-pub mod Operators
+pub mod ModuleEndings
 pub mod Pieces
 pub mod Runs
 pub mod Safety
-pub mod Sections
 pub mod Stacks

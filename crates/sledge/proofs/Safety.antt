@@ -9,9 +9,13 @@ use Rattle.wasm_ops.specs.declared.traps.Trap.{Trap}
 use Rattle.wasm_ops.specs.declared.traps.Trap.TheVariants as trap
 use Rattle.wasm_ops.specs.declared.types.ValType.{ValType}
 use Rattle.wasm_ops.specs.declared.types.ValType.TheVariants.{I32, I64}
-use Rattle.sledge.proofs.Forms.{chained}
 use Rattle.sledge.specs.Execution.{Value, Int32, Int64, number_of, value_of, Run, run, act, effect, binary_effect, with_numbers, computed, price, Effect, Goes, Traps, Breaks, Stuck}
 use Rattle.sledge.specs.Typing.{IsTyped, OperandTypes, binary_types, fits, laid, pull, pull_from, typed, typed_operator}
+
+-- what a chain answered was answered by both parts
+chained : {A B : Type 0} (first : Option A) (second : A → Option B) (answer : B) → option_and_then second first ≡ Some answer → (middle : A) × (first ≡ Some middle) × (second middle ≡ Some answer)
+chained None second answer e = cc
+chained (Some middle) second answer e = (middle, refl, e)
 
 type_of : Value → ValType
 type_of (Int32 n) = I32

@@ -8,7 +8,9 @@ use Rattle.wasm_ops.specs.declared.operators.Op.{Op}
 use Rattle.wasm_ops.specs.Traps.{trap_text}
 use Rattle.http_front.specs.Reported.{Reported, Replied, Trapped, OutOfBudget}
 use Rattle.http_front.specs.Reply.{reply_of}
-use Rattle.sledge.specs.BuiltModule.{IsBuilt}
+use Rattle.wasm_ops.specs.declared.faults.Fault.{Fault}
+use Rattle.wasm_reader.specs.Modules.{RefusesModule}
+use Rattle.sledge.specs.BuiltModule.{IsBuilt, IsNotBuilt}
 use Rattle.sledge.specs.CommandLine.{Asked, AsksHelp, AsksVersion, AsksInvoke, InvokeWords, command_of}
 use Rattle.sledge.specs.Execution.{execution_of}
 use Rattle.sledge.specs.declared.machine.Execution.{Execution}
@@ -70,10 +72,6 @@ answered run = record {
 abbrev pub body_limit : ℕ
 body_limit = 1048576
 
--- no operators make the file one of the modules that are run so far
-abbrev pub IsNotBuilt : List ℕ → Type 0
-IsNotBuilt bytes = (ops : List Op) → IsBuilt bytes ops → ⊥
-
 -- the operators run within the budget to this ending
 abbrev pub EndsRun : List Op → (budget : ℕ) → Ended → Type 0
 EndsRun ops budget e = (run : Execution) × (execution_of ops budget ≡ Some run) × (e ≡ answered run)
@@ -87,12 +85,17 @@ abbrev pub EndsFromBody : List Op → InvokeWords → (body : Option (List ℕ))
 EndsFromBody ops words None e = e ≡ not_read words.body_name
 EndsFromBody ops words (Some body) e = EndsOnBody ops words.budget body e
 
--- the ending from the module on: it is read, and it is of a kind that is run so far
+-- the bytes are refused as a module, with the number and at the place that the ending says
+abbrev pub EndsRefused : (bytes : List ℕ) → Ended → Type 0
+EndsRefused bytes e = (fault : Fault) × RefusesModule bytes fault × (e ≡ module_fault 0 fault.number fault.place)
+
+-- the ending from the module on: its bytes are refused, or they spell a module, which is of a kind that is run so far or is not
 abbrev pub EndsFromModule : InvokeWords → (bytes body : Option (List ℕ)) → Ended → Type 0
 EndsFromModule words None body e = e ≡ not_read words.module_name
 EndsFromModule words (Some bytes) body e =
-    ((ops : List Op) × IsBuilt bytes ops × EndsFromBody ops words body e)
+    EndsRefused bytes e
     ⊎ (IsNotBuilt bytes × (e ≡ module_fault 0 90 0))
+    ⊎ ((ops : List Op) × IsBuilt bytes ops × EndsFromBody ops words body e)
 
 -- what the reads of a command give, by their place in its order and by the name: the bytes of the file,
 -- or none where no file has the name

@@ -3,10 +3,8 @@ pub mod CommandLine
 pub mod Delivery
 pub mod Endings
 pub mod Execution
-pub mod Grammar
 pub mod Heights
 pub mod Machine
 pub mod Promises
-pub mod Reading
 pub mod Statuses
 pub mod Typing

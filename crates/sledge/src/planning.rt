@@ -1,13 +1,13 @@
 //! From the words to the ending: reads each file in its order, checks it, and runs.
 
-ghost use Rattle.std.specs.Prelude.{◌≡◌, ◌≤◌, map, IfOk, IfSome, IfNone, string_bytes};
+ghost use Rattle.std.specs.Prelude.{◌≡◌, ◌≤◌, map, Some, IfOk, string_bytes};
 ghost use Rattle.std.specs.List.{AllByRecursion};
-ghost use Rattle.sledge.specs.BuiltModule.{IsBuilt, IsBuiltOperator};
+ghost use Rattle.sledge.specs.BuiltModule.{IsBuiltOperator};
 ghost use Rattle.sledge.specs.CommandLine.{command_of, invoke_view};
-ghost use Rattle.sledge.specs.Endings.{EndsAs, IsEnding, EndsInvoke, EndsFromBody, EndsOnBody, IsNotBuilt, names_of, read_order};
+ghost use Rattle.sledge.specs.Endings.{EndsAs, IsEnding, EndsInvoke, EndsFromModule, EndsFromBody, EndsOnBody, names_of, read_order};
 ghost use Rattle.sledge.specs.Typing.{IsTyped};
 
-use crate::built_module::{MODULE_LIMIT, Unread, read_built};
+use crate::built_module::built_operators;
 use crate::command::{Command, Invoke};
 use crate::ending::Ending;
 use crate::machine::execute;
@@ -15,6 +15,11 @@ use crate::texts::{HELP, VERSION};
 use outside::{Fetch, Library};
 use std::alloc::{AllocError, Global};
 use wasm_ops::Op;
+use wasm_reader::{ReadFault, read_module};
+
+/// The most bytes of a module's file: 4 MiB. One byte more is read of a longer one, by which its
+/// reader sees that it is too long.
+const MODULE_LIMIT: u64 = 4 << 20;
 
 /// The most bytes of a request body.
 const BODY_LIMIT: u64 = 1 << 20;
@@ -52,14 +57,32 @@ fn from_module<L: Library>(
     ensures later { L.fault_count lib.old ≤ L.fault_count lib.new }
 {
     match lib.read(alloc, invoke.module_name, MODULE_LIMIT) {
-        Ok(bytes) => match read_built(alloc, bytes.as_slice()) {
-            Ok(ops) => from_body(alloc, ops.as_slice(), invoke, lib),
-            Err(Unread::NotBuilt) => Ending::module_fault(alloc, 0, NOT_BUILT, 0),
-            Err(Unread::NoMemory) => Err(AllocError),
-        },
+        Ok(bytes) => from_bytes(alloc, bytes.as_slice(), invoke, lib),
         Err(Fetch::Missing) => Ending::not_read(alloc, invoke.module_name),
         Err(Fetch::Failed) => Ending::not_read(alloc, invoke.module_name),
         Err(Fetch::NoMemory) => Err(AllocError),
+    }
+}
+
+/// The ending of an `invoke` once the bytes of its module are there.
+fn from_bytes<L: Library>(
+    alloc: Global,
+    bytes: &[u8],
+    invoke: Invoke<'_>,
+    lib: &mut L,
+) -> Result<Ending, AllocError>
+    ensures ending { IfOk result (EndsAs (L.held lib.old) (λ reads. EndsFromModule (invoke_view invoke.entry) (Some bytes.now) (reads 1 (invoke_view invoke.entry).body_name))
+        (names_of (invoke_view invoke.entry)) (L.fault_count lib.old) (L.fault_count lib.new)) }
+    ensures same { L.held lib.new ≡ L.held lib.old }
+    ensures later { L.fault_count lib.old ≤ L.fault_count lib.new }
+{
+    match read_module(alloc, bytes) {
+        Ok(module) => match built_operators(&module) {
+            Some(ops) => from_body(alloc, ops, invoke, lib),
+            None => Ending::module_fault(alloc, 0, NOT_BUILT, 0),
+        },
+        Err(ReadFault::Bytes(fault)) => Ending::module_fault(alloc, 0, fault.number, fault.place),
+        Err(ReadFault::NoMemory) => Err(AllocError),
     }
 }
 

@@ -3,12 +3,14 @@
 ghost use Rattle.std.specs.Prelude.{◌≡◌, ◌≢◌, ℕ, ◌<◌, ◌≤◌, List, length, ◌⊎◌, map, string_bytes, None, Some, IfSome, IsSomeAnd};
 ghost use Rattle.outside.specs.Faults.{Rose};
 ghost use Rattle.sledge.specs.CommandLine.{AsksInvoke, InvokeWords, command_of};
-ghost use Rattle.sledge.specs.Endings.{Ended, EndsAs, IsEnding, IsNotBuilt, body_limit, out_of_memory, read_order};
+ghost use Rattle.sledge.specs.Endings.{Ended, EndsAs, IsEnding, body_limit, out_of_memory, read_order};
 ghost use Rattle.sledge.specs.Delivery.{Leaves};
-ghost use Rattle.sledge.specs.BuiltModule.{IsBuilt};
+ghost use Rattle.sledge.specs.BuiltModule.{IsBuilt, IsNotBuilt};
 ghost use Rattle.sledge.specs.Promises.{AnswersInvoke, EndsWith, HoldsBoth, Refused, Yields};
 ghost use Rattle.sledge.specs.declared.status.Status.{Status as StatusValue};
+ghost use Rattle.wasm_ops.specs.declared.faults.Fault.{Fault as FaultValue};
 ghost use Rattle.wasm_ops.specs.declared.operators.Op.{Op as OpValue};
+ghost use Rattle.wasm_reader.specs.Modules.{RefusesModule};
 
 use crate::delivery::deliver;
 use crate::planning::plan;
@@ -65,7 +67,11 @@ pub fn run<R: Threads + Sync, L: Library, S: Sink, N: Sink, G: Gate>(
         → Yields due result (Rose (L.fault_count lib.old) (L.fault_count lib.new))
         (Rose (S.fault_count out.old) (S.fault_count out.new) ⊎ Rose (N.fault_count notes.old) (N.fault_count notes.new))) }
 
-    // So a module of no kind that is run so far, a body that is too long, and files that are accepted.
+    // So a file that is refused as a module, a module of no kind that is run so far, a body that is too long, and files that are accepted.
+    ensures module_refused { (i : InvokeWords) (file : List ℕ) (fault : FaultValue) → command_of (map string_bytes words.now) ≡ Some (AsksInvoke i)
+        → RefusesModule file fault → IfSome (L.held lib.old) (λ files. files i.module_name ≡ Some file
+        → Yields (Status.ModuleFault 0 fault.number fault.place) result (Rose (L.fault_count lib.old) (L.fault_count lib.new))
+        (Rose (S.fault_count out.old) (S.fault_count out.new) ⊎ Rose (N.fault_count notes.old) (N.fault_count notes.new))) }
     ensures not_built { (i : InvokeWords) (file : List ℕ) → command_of (map string_bytes words.now) ≡ Some (AsksInvoke i) → IsNotBuilt file
         → IfSome (L.held lib.old) (λ files. files i.module_name ≡ Some file
         → Yields (Status.ModuleFault 0 90 0) result (Rose (L.fault_count lib.old) (L.fault_count lib.new))

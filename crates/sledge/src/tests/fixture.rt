@@ -118,15 +118,23 @@ pub fn failing_page(alloc: Global, call: u64, passes: u64) -> Result<Page, Alloc
     Page::new(alloc, ROOM, vec![in alloc; Cut { call, passes }]?)
 }
 
+/// The type section of the least module: one type, of no parameters and no result.
+pub const TYPES: &[u8] = &[1, 4, 1, 0x60, 0, 0];
+
+/// The file whose one function is exported as `_start`, with these type and code sections.
+pub fn file(alloc: Global, types: &[u8], code: &[u8]) -> Result<Vec<u8>, AllocError> {
+    let mut bytes = Vec::from_slice(alloc, b"\0asm\x01\0\0\0")?;
+    bytes.extend_from_slice(types)?;
+    bytes.extend_from_slice(b"\x03\x02\x01\0\x07\x0A\x01\x06_start\0\0")?;
+    bytes.extend_from_slice(code)?;
+    Ok(bytes)
+}
+
 /// The module whose one function has these operators, at most 100 bytes of them, each number in its shortest spelling.
 pub fn module(alloc: Global, ops: &[u8]) -> Result<Vec<u8>, AllocError> {
-    let mut bytes = Vec::from_slice(
-        alloc,
-        b"\0asm\x01\0\0\0\x01\x04\x01\x60\0\0\x03\x02\x01\0\x07\x0A\x01\x06_start\0\0\x0A",
-    )?;
     let body = ops.len().min(100) as u8 + 2;
-    bytes.extend_from_slice(&[body + 2, 1, body, 0])?;
-    bytes.extend_from_slice(ops)?;
-    bytes.push(0x0B)?;
-    Ok(bytes)
+    let mut code = Vec::from_slice(alloc, &[0x0A, body + 2, 1, body, 0])?;
+    code.extend_from_slice(ops)?;
+    code.push(0x0B)?;
+    file(alloc, TYPES, code.as_slice())
 }

@@ -1,6 +1,6 @@
 use Rattle.std.proofs.Common.{map, string_bytes}
 use Rattle.sledge.proofs.Clauses.{leaves_answered, leaves_refused}
-use Rattle.sledge.proofs.Exactly.{complete_exactly, leaves_caused, leaves_exactly, not_built_exactly, too_long_exactly}
+use Rattle.sledge.proofs.Exactly.{complete_exactly, leaves_caused, leaves_exactly, not_built_exactly, refused_exactly, too_long_exactly}
 use Rattle.sledge.specs.CommandLine.{command_of}
 use Rattle.sledge.proofs.top.run.Goals as goal
 
@@ -19,6 +19,11 @@ returns-clause-caused g c =
 pub returns-clause-exactly : goal.returns-clause-exactly
 returns-clause-exactly g c =
     leaves_exactly _ (command_of (map string_bytes c.args.words.now)) _ _ c.carry_out.ensures.ended.0 _ _ _ _ _ _ _ _ _ c.carry_out.ensures.ended.1 c.carry_out.ensures.ended.2
+
+pub returns-clause-module_refused : goal.returns-clause-module_refused
+returns-clause-module_refused g c =
+    λ i file fault is r. refused_exactly _ (command_of (map string_bytes c.args.words.now)) _ _ _
+    (leaves_exactly _ (command_of (map string_bytes c.args.words.now)) _ _ c.carry_out.ensures.ended.0 _ _ _ _ _ _ _ _ _ c.carry_out.ensures.ended.1 c.carry_out.ensures.ended.2) i file fault is r
 
 pub returns-clause-not_built : goal.returns-clause-not_built
 returns-clause-not_built g c =

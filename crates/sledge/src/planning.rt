@@ -15,11 +15,7 @@ use crate::texts::{HELP, VERSION};
 use outside::{Fetch, Library};
 use std::alloc::{AllocError, Global};
 use wasm_ops::Op;
-use wasm_reader::{ReadFault, read_module};
-
-/// The most bytes of a module's file: 4 MiB. One byte more is read of a longer one, by which its
-/// reader sees that it is too long.
-const MODULE_LIMIT: u64 = 4 << 20;
+use wasm_reader::{MOST_BYTES, ReadFault, read_module};
 
 /// The most bytes of a request body.
 const BODY_LIMIT: u64 = 1 << 20;
@@ -56,7 +52,8 @@ fn from_module<L: Library>(
     ensures same { L.held lib.new ≡ L.held lib.old }
     ensures later { L.fault_count lib.old ≤ L.fault_count lib.new }
 {
-    match lib.read(alloc, invoke.module_name, MODULE_LIMIT) {
+    // One byte more is read of a longer file, by which its reader sees that it is too long.
+    match lib.read(alloc, invoke.module_name, MOST_BYTES) {
         Ok(bytes) => from_bytes(alloc, bytes.as_slice(), invoke, lib),
         Err(Fetch::Missing) => Ending::not_read(alloc, invoke.module_name),
         Err(Fetch::Failed) => Ending::not_read(alloc, invoke.module_name),

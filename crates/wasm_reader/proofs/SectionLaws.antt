@@ -1,5 +1,5 @@
 -- The sections of a module are read as their syntaxes have them, and each takes a byte.
-use Rattle.std.proofs.Common.{ℕ, ◌<◌, ◌≤◌, List, length, Some, ap, arith, length-append}
+use Rattle.std.proofs.Common.{ℕ, ◌<◌, ◌≤◌, List, length, Option, Some, ap, arith, length-append}
 use Rattle.wasm_ops.specs.declared.modules.Module.{Module}
 use Rattle.wasm_ops.specs.declared.numbers.Sign.TheVariants.{Unsigned}
 use Rattle.wasm_ops.specs.Input.{Input}
@@ -19,7 +19,7 @@ use Rattle.wasm_reader.proofs.PartLaws.{name_decided}
 use Rattle.wasm_reader.proofs.ContentLaws.{types_decided, imports_decided, functions_decided, tables_decided, memories_decided, globals_decided, exports_decided, elements_decided, segments_decided}
 use Rattle.wasm_reader.proofs.BodyLaws.{in_section_decided, bodies_decided}
 
-pub section_id_decided : (last : ℕ) → IsDecidedBy (section_id last)
+pub section_id_decided : (last : Option Part) → IsDecidedBy (section_id last)
 section_id_decided last = checked_decided (rising last) (or_fault 17) (checked_decided section_of (or_fault 19) byte_decided)
 
 part_decided : (p : Part) (m : Module) → IsDecidedBy (part_of p m)

@@ -1,5 +1,5 @@
 -- Where a file's bytes lie ahead up to its end, they do so behind what is read of them.
-use Rattle.std.proofs.Common.{◌≡◌, inl, inr, ℕ, ◌+◌, ◌-◌, ◌<◌, ◌≤◌, List, [], ◌∷◌, ◌++◌, length, take, drop, Result, Ok, Err, OnOk, refl, ap, sym, ◌∙◌, subst, append_assoc, length-append, arith}
+use Rattle.std.proofs.Common.{◌≡◌, inl, inr, ℕ, ◌+◌, ◌-◌, ◌<◌, ◌≤◌, List, [], ◌∷◌, ◌++◌, length, take, drop, Option, Result, Ok, Err, OnOk, refl, ap, sym, ◌∙◌, subst, append_assoc, length-append, arith}
 use Rattle.std.proofs.Math.Seq.{drop-append_seam, take-append_seam}
 use Rattle.wasm_ops.specs.declared.faults.Fault.{Fault}
 use Rattle.wasm_ops.specs.declared.numbers.Sign.{Sign}
@@ -9,6 +9,7 @@ use Rattle.wasm_ops.specs.NumberInput.{ReadsNumber}
 use Rattle.wasm_code.specs.Reading.{Read, ReadsByte, fault_at}
 use Rattle.wasm_reader.specs.declared.faults.ReadFault.{ReadFault}
 use Rattle.wasm_reader.specs.declared.faults.ReadFault.TheVariants.{Bytes, NoMemory}
+use Rattle.wasm_reader.specs.declared.sections.Part.{Part}
 use Rattle.wasm_reader.specs.declared.sections.Progress.{Progress}
 use Rattle.wasm_reader.specs.declared.sections.Section.{Section}
 use Rattle.wasm_reader.specs.Modules.{header, magic, opens_with, version}
@@ -64,7 +65,7 @@ byte_tail file before byte after tail reads = tail_behind file before after (byt
 
 -- behind the id of a section, which takes a byte
 pub id_tail
-    : (file : List ℕ) (last : ℕ) (before : Input) (s : Section) (there : Input) → IsTail file before → (section_id last).read before ≡ Ok (s, there)
+    : (file : List ℕ) (last : Option Part) (before : Input) (s : Section) (there : Input) → IsTail file before → (section_id last).read before ≡ Ok (s, there)
     → IsTail file there × (length there.left < length before.left)
 id_tail file last before s there tail e =
     let id = ((section_id_decided last).decides before).found s there e in

@@ -45,7 +45,7 @@ no_parts = record {
 }
 
 abbrev pub at_start : Progress
-at_start = record { last = 0; parts = no_parts }
+at_start = record { last = None; parts = no_parts }
 
 -- each function has its body: where there is no section of bodies, there is no function
 abbrev pub complete : Progress → Option Module

@@ -1,5 +1,5 @@
 -- The sections of a module, in their order (WebAssembly Core 1.0, sections 5.5.2 and 5.5.3).
-use Rattle.std.specs.Prelude.{◌≡◌, ℕ, ◌==◌, nat_lt, if◌then◌else◌, List, ◌++◌, length, Option, Some, None}
+use Rattle.std.specs.Prelude.{◌≡◌, ℕ, ◌==◌, nat_lt, Bool, true, if◌then◌else◌, List, ◌++◌, length, Option, Some, None}
 use Rattle.wasm_ops.specs.declared.faults.Fault.{Fault}
 use Rattle.wasm_ops.specs.declared.modules.Module.{Module}
 use Rattle.wasm_ops.specs.Input.{Input}
@@ -43,12 +43,17 @@ id_of part.Elements = 9
 id_of part.Bodies = 10
 id_of part.Segments = 11
 
--- a custom section stands anywhere, and any other one behind those with lower ids
-abbrev pub rising : (last : ℕ) → Section → Option Section
-rising last section.Custom = Some section.Custom
-rising last (section.Part p) = if nat_lt last (id_of p) then Some (section.Part p) else None
+-- a part's section stands behind those with lower ids
+abbrev pub is_behind : (last : Option Part) → Part → Bool
+is_behind None p = true
+is_behind (Some last) p = nat_lt (id_of last) (id_of p)
 
-abbrev pub section_id : (last : ℕ) → Syntax Section
+-- and a custom one stands anywhere
+abbrev pub rising : (last : Option Part) → Section → Option Section
+rising last section.Custom = Some section.Custom
+rising last (section.Part p) = if is_behind last p then Some (section.Part p) else None
+
+abbrev pub section_id : (last : Option Part) → Syntax Section
 section_id last = checked (rising last) (or_fault 17) (checked section_of (or_fault 19) byte)
 
 -- the module with one more part, from what stands in the section
@@ -74,7 +79,7 @@ abbrev pub content : Part → Module → Syntax Module
 content p m = refused_as (told_in p) (part_of p m)
 
 abbrev pub after_part : Part → Module → Progress
-after_part p m = record { last = id_of p; parts = m }
+after_part p m = record { last = Some p; parts = m }
 
 -- what stands in a section: a custom one begins with a name, and its other bytes are not read; any other one is read to its end
 abbrev pub section_content : Section → Progress → Syntax Progress

@@ -1,6 +1,5 @@
 //! Why no module is answered.
 ghost use Rattle.std.specs.Prelude.{◌≡◌};
-ghost use Rattle.wasm_code.specs.declared.faults.CodeFault.TheVariants as code;
 ghost use Rattle.wasm_reader.specs.declared.faults.ReadFault.TheVariants.{Bytes, NoMemory};
 
 use std::alloc::{AllocError, AllocFailed};

@@ -1,5 +1,5 @@
 //! Imports (WebAssembly Core 1.0, section 5.5.5).
-ghost use Rattle.std.specs.Prelude.{◌≡◌, ◌+◌, ◌≤◌, ◌<◌, ◌^◌, [], length};
+ghost use Rattle.std.specs.Prelude.{◌≡◌, ◌+◌, ◌<◌, ◌^◌, []};
 ghost use Rattle.wasm_code.specs.Faults.{Tells};
 ghost use Rattle.wasm_reader.specs.Contents.{counts_function, counts_global, has_room, import_behind, import_item as import_item_syntax, import_kind as import_kind_syntax, imported_functions, imported_globals, imports as imports_syntax, kind_of, next_import};
 ghost use Rattle.wasm_reader.specs.Outcome.{Gives};

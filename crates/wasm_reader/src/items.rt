@@ -1,5 +1,4 @@
 //! What the vectors of a module are made of, but for imports and bodies (WebAssembly Core 1.0, sections 5.5.4 to 5.5.12 and 5.5.14).
-ghost use Rattle.std.specs.Prelude.{◌≡◌};
 ghost use Rattle.wasm_code.specs.Faults.{Tells};
 ghost use Rattle.wasm_reader.specs.Contents.{as_kind, element as element_syntax, export as export_syntax, global as global_syntax, segment as segment_syntax};
 ghost use Rattle.wasm_reader.specs.Outcome.{Gives};
@@ -15,9 +14,10 @@ use wasm_ops::{
     ByteSegment, Cursor, ElementSegment, Export, Fault, FuncType, GlobalDef, Items, Name, ValType,
 };
 
-// The most parameters of a function type, and the most results.
+// The most parameters of a function type.
 const MOST_PARAMETERS: u32 = 1_000;
 
+// The most results of a function type.
 const MOST_RESULTS: u32 = 1;
 
 // The greatest kind of an export: a global.

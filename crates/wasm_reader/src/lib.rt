@@ -18,7 +18,7 @@ mod vectors;
 
 pub use faults::ReadFault;
 pub use imports::ImportKind;
-pub use modules::read_module;
+pub use modules::{MOST_BYTES, read_module};
 pub use sections::{Part, Progress, Section};
 
 #[cfg(test)]

@@ -1,5 +1,5 @@
 //! The reader of modules (WebAssembly Core 1.0, section 5.5.15).
-ghost use Rattle.std.specs.Prelude.{◌≡◌, ◌≤◌, ◌<◌, ◌^◌, length, IfOk, IfErr};
+ghost use Rattle.std.specs.Prelude.{◌≤◌, ◌<◌, ◌^◌, length, IfOk, IfErr};
 ghost use Rattle.wasm_ops.specs.declared.faults.Fault.{Fault as FaultValue};
 ghost use Rattle.wasm_ops.specs.declared.modules.Module.{Module as ModuleValue};
 ghost use Rattle.wasm_ops.specs.Input.{Input};
@@ -15,12 +15,13 @@ use crate::sections::{Progress, read_section};
 use std::alloc::Global;
 use wasm_ops::{Cursor, Fault, Module};
 
-// The most bytes of a module: 4 MiB.
-const MOST_BYTES: usize = 4 << 20;
+/// The most bytes of a module's file: 4 MiB.
+pub const MOST_BYTES: u64 = 4 << 20;
 
-// What a module opens with (section 5.5.15), and the version of the format.
+// What a module opens with (section 5.5.15).
 const MAGIC: &[u8] = b"\0asm";
 
+// The version of the format, which stands behind it: 1.
 const VERSION: &[u8] = &[1, 0, 0, 0];
 
 /// The module that the bytes spell, all of them.
@@ -36,7 +37,7 @@ pub fn read_module(alloc: Global, bytes: &[u8]) -> Result<Module, ReadFault>
     ensures only { (parts : ModuleValue) → SpellsModule bytes.now parts → GivesValue result parts }
     ensures only_refused { (fault : FaultValue) → RefusesModule bytes.now fault → GivesFault result fault }
 {
-    if MOST_BYTES < bytes.len() {
+    if MOST_BYTES < bytes.len() as u64 {
         return Err(ReadFault::Bytes(Fault {
             number: 21,
             place: 0,

@@ -1,4 +1,4 @@
-//! What the parts of a module are spelt with: counts, names, limits, constants and function types (WebAssembly Core 1.0, sections 5.2.4 and 5.3).
+//! What the parts of a module are spelt with: counts, names, limits and constants (WebAssembly Core 1.0, sections 5.1.3, 5.2.4, 5.3 and 5.4.6).
 ghost use Rattle.std.specs.Prelude.{◌≡◌, ◌+◌, nat_lt, option_map};
 ghost use Rattle.wasm_code.specs.Faults.{Tells};
 ghost use Rattle.wasm_reader.specs.Syntax.{byte, checked, limited, or_fault};

@@ -3,7 +3,7 @@ ghost use Rattle.std.specs.Prelude.{◌≡◌, ◌+◌, ◌<◌, ◌≤◌, ◌^
 ghost use Rattle.wasm_code.specs.Faults.{Tells};
 ghost use Rattle.wasm_reader.specs.Modules.{at_start};
 ghost use Rattle.wasm_reader.specs.Outcome.{Gives};
-ghost use Rattle.wasm_reader.specs.Sections.{IsTail, content as content_syntax, id_of, one_section, part_of, rising, section_content as section_content_syntax, section_id as section_id_syntax, section_of, told_in};
+ghost use Rattle.wasm_reader.specs.Sections.{IsTail, content as content_syntax, id_of, is_behind, one_section, part_of, rising, section_content as section_content_syntax, section_id as section_id_syntax, section_of, told_in};
 ghost use Rattle.wasm_reader.specs.Syntax.{number};
 
 use crate::bodies::{bodies, section_fault};
@@ -110,8 +110,8 @@ impl Section {
 /// What has been read of a module.
 #[derive(Debug, Drop)]
 pub struct Progress {
-    /// The id of the last section that is not custom, 0 where there is none yet.
-    pub last: u8,
+    /// What the last section held that is not custom, if there is one yet.
+    pub last: Option<Part>,
 
     /// The parts so far.
     pub parts: Module,
@@ -123,7 +123,7 @@ impl Progress {
         ensures { result ≡ at_start }
     {
         Progress {
-            last: 0,
+            last: None,
             parts: Module {
                 types: Items::new(Vec::new(alloc)),
                 imports: Items::new(Vec::new(alloc)),
@@ -173,7 +173,7 @@ fn window(bytes: &[u8], at: u32, size: u32) -> Cursor<'_>
 }
 
 // What the next section holds. Refused: 19 at an unknown id, and 17 at one that does not stand behind the last one.
-fn section_id(last: u8, cursor: &mut Cursor<'_>) -> Result<Section, Fault>
+fn section_id(last: Option<Part>, cursor: &mut Cursor<'_>) -> Result<Section, Fault>
     ensures { Tells (λ section. (section, cursor.new)) result ((section_id_syntax last).read cursor.old) }
 {
     let at = cursor.at();
@@ -193,13 +193,23 @@ fn section_id(last: u8, cursor: &mut Cursor<'_>) -> Result<Section, Fault>
 }
 
 // The section, where it stands behind the last one.
-fn rising(last: u8, section: Section) -> Option<Section>
+fn rising(last: Option<Part>, section: Section) -> Option<Section>
     ensures { result ≡ rising last section }
 {
     match section {
         Section::Custom => Some(Section::Custom),
-        Section::Part(part) if last < part.id() => Some(Section::Part(part)),
+        Section::Part(part) if is_behind(last, part) => Some(Section::Part(part)),
         Section::Part(_) => None,
+    }
+}
+
+// Whether a part's section may stand behind the last one.
+fn is_behind(last: Option<Part>, part: Part) -> bool
+    ensures { result ≡ is_behind last part }
+{
+    match last {
+        None => true,
+        Some(last) => last.id() < part.id(),
     }
 }
 
@@ -235,7 +245,7 @@ fn section_content(
                     place: window.at(),
                 }));
             }
-            progress.last = part.id();
+            progress.last = Some(part);
             Ok(())
         }
     }
@@ -258,6 +268,7 @@ fn content(
     }
 }
 
+// How the section of a part tells the refusal of what it holds.
 fn told(part: Part, fault: Fault) -> Fault
     ensures { result ≡ told_in part fault }
 {

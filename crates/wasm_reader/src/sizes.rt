@@ -1,5 +1,5 @@
 //! The tables and the memories of a module: lists of their limits (WebAssembly Core 1.0, sections 5.5.7 and 5.5.8).
-ghost use Rattle.std.specs.Prelude.{◌≡◌, []};
+ghost use Rattle.std.specs.Prelude.{[]};
 ghost use Rattle.wasm_reader.specs.Contents.{memories as memories_syntax, tables as tables_syntax};
 ghost use Rattle.wasm_reader.specs.Outcome.{Gives};
 ghost use Rattle.wasm_reader.specs.Parts.{memory as memory_syntax, table as table_syntax};

@@ -1,5 +1,5 @@
 //! Vectors (WebAssembly Core 1.0, section 5.1.3).
-ghost use Rattle.std.specs.Prelude.{◌≡◌, []};
+ghost use Rattle.std.specs.Prelude.{[]};
 ghost use Rattle.wasm_reader.specs.Outcome.{Gives};
 ghost use Rattle.wasm_reader.specs.Syntax.{Syntax, items_from, vector, vector_within};
 

@@ -44,10 +44,12 @@ class Window:
     def byte(self):
         return self.pass_by(1)[0]
 
-    def only(self, wanted, number):
-        """A byte that has to be one of these."""
+    def only(self, wanted, number, floats=(), float_number=None):
+        """A byte that has to be one of these; one that means floating point has a refusal of its own."""
         place = self.at
         found = self.byte()
+        if found in floats:
+            raise Refused(float_number, place)
         if found not in wanted:
             raise Refused(number, place)
         return found
@@ -88,12 +90,7 @@ class Window:
 
 
 def value_type(window):
-    place = window.at
-    byte = window.byte()
-    if byte in (0x7C, 0x7D):
-        raise Refused(FLOAT_TYPE, place)
-    if byte not in (0x7E, 0x7F):
-        raise Refused(BAD_TYPE, place)
+    window.only((0x7E, 0x7F), BAD_TYPE, (0x7C, 0x7D), FLOAT_TYPE)
 
 
 def limits(window, most_least=None):
@@ -112,12 +109,7 @@ def table(window):
 
 
 def constant(window):
-    place = window.at
-    operator = window.byte()
-    if operator in (0x43, 0x44):
-        raise Refused(FLOAT_OPERATOR, place)
-    if operator not in (0x41, 0x42):
-        raise Refused(BAD_CONSTANT, place)
+    operator = window.only((0x41, 0x42), BAD_CONSTANT, (0x43, 0x44), FLOAT_OPERATOR)
     window.number(32 if operator == 0x41 else 64, signed=True)
     window.only((0x0B,), BAD_CONSTANT)
 

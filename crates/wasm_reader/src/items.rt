@@ -1,4 +1,4 @@
-//! What the vectors of a module are made of, but for imports and bodies (WebAssembly Core 1.0, sections 5.5.4 to 5.5.12 and 5.5.14).
+//! What the vectors of a module are made of, but for imports, tables, memories and bodies (WebAssembly Core 1.0, sections 5.3, 5.5.4 to 5.5.6, 5.5.9, 5.5.10, 5.5.12 and 5.5.14).
 ghost use Rattle.wasm_code.specs.Faults.{Tells};
 ghost use Rattle.wasm_reader.specs.Contents.{as_kind, element as element_syntax, export as export_syntax, global as global_syntax, segment as segment_syntax};
 ghost use Rattle.wasm_reader.specs.Outcome.{Gives};

@@ -1,5 +1,5 @@
 -- When the integer operators trap.
-use Rattle.std.proofs.Common.{◌≡◌, ◌≢◌, ℕ, ◌-◌, ◌^◌, ◌<◌, ◌↔◌, ◌⊎◌, ◌==◌, ◌&&◌, Bool, true, false, Result, Ok, Err, IfErr, if◌then◌else◌, int_div, int_rem, ◌/◌, ◌%◌, refl, inl, inr, arith, pos, neg_ℤ}
+use Rattle.std.proofs.Common.{◌≡◌, ◌≢◌, ℕ, ◌-◌, ◌^◌, ◌<◌, ◌↔◌, ◌⊎◌, ◌==◌, ◌&&◌, Bool, true, false, Some, Result, Ok, Err, IfErr, if◌then◌else◌, int_div, int_rem, ◌/◌, ◌%◌, refl, inl, inr, arith, pos, neg_ℤ}
 use Rattle.std.proofs.lemmas.Bool.Decides.{nat_tests}
 use Rattle.std.proofs.lemmas.Int.{ints}
 use Rattle.wasm_ops.specs.declared.types.ValType.{ValType}
@@ -35,7 +35,7 @@ division_by_zero : (b : ℕ) (r : Result ℕ Trap) → r ≢ Err DivideByZero �
 division_by_zero b r ne = let t = tested b r ne in (λ h. (tt, t.0 h), λ h. t.1 h.1)
 
 pub two_operands-by_zero : (o : Operation) (a b : ℕ) →
-    (two_operands o a b ≡ Err DivideByZero) ↔ (IsDivision o × (b ≡ 0))
+    (two_operands o a b ≡ Err DivideByZero) ↔ (IsDivision (Some o) × (b ≡ 0))
 two_operands-by_zero (Compute t DivS) a b = division_by_zero b _ (overflow_tested _ _)
 two_operands-by_zero (Compute t DivU) a b = division_by_zero b _ (ok_never _ _ _)
 two_operands-by_zero (Compute t RemS) a b = division_by_zero b _ (ok_never _ _ _)
@@ -72,7 +72,7 @@ never_overflows : (x : ℕ) → (Ok x ≡ Err IntegerOverflow) ↔ ⊥
 never_overflows x = (ok_never x IntegerOverflow _, λ h. absurd h)
 
 pub two_operands-overflow : (o : Operation) (a b : ℕ) → IsOfType (operand_of o) a → IsOfType (operand_of o) b →
-    (two_operands o a b ≡ Err IntegerOverflow) ↔ Overflows o a b
+    (two_operands o a b ≡ Err IntegerOverflow) ↔ Overflows (Some o) a b
 two_operands-overflow (Compute t DivS) a b in_a in_b =
     let q = overflow_of_quotient t a b (unsigned t (int_div (signed t a) (signed t b))) in
     let l = least_is t a in_a in

@@ -1,5 +1,5 @@
 -- What the integer operators compute, as whole-number arithmetic (WebAssembly Core 1.0, section 4.3.2).
-use Rattle.std.specs.Prelude.{◌≡◌, ℕ, ◌+◌, ◌-◌, ◌*◌, ◌/◌, ◌%◌, ◌^◌, ◌==◌, ◌&&◌, Bool, not, nat_lt, nat_le, pos, neg_ℤ, Result, Ok, Err, bit_and, bit_or, bit_xor, count_ones, int_div, int_rem, int_lt, int_le, if◌then◌else◌}
+use Rattle.std.specs.Prelude.{◌≡◌, ℕ, ◌+◌, ◌-◌, ◌*◌, ◌/◌, ◌%◌, ◌^◌, ◌==◌, ◌&&◌, Bool, not, nat_lt, nat_le, pos, neg_ℤ, Option, Some, IfSome, option_map, Result, Ok, Err, bit_and, bit_or, bit_xor, count_ones, int_div, int_rem, int_lt, int_le, if◌then◌else◌}
 use Rattle.std.specs.Int.{from_bool, int_shr, leading_zeros, trailing_zeros}
 use Rattle.wasm_ops.specs.declared.types.ValType.{ValType}
 use Rattle.wasm_ops.specs.declared.types.ValType.TheVariants.{I32, I64}
@@ -13,8 +13,8 @@ use Rattle.wasm_ops.specs.declared.operations.Arithmetic.{Arithmetic}
 use Rattle.wasm_ops.specs.declared.operations.Arithmetic.TheVariants.{Add, Sub, Mul, DivS, DivU, RemS, RemU, And, Or, Xor, Shl, ShrS, ShrU, Rotl, Rotr}
 use Rattle.wasm_ops.specs.declared.operations.Operation.{Operation}
 use Rattle.wasm_ops.specs.declared.operations.Operation.TheVariants.{Eqz, Compare, Count, Compute, Wrap, ExtendS, ExtendU}
-use Rattle.wasm_ops.specs.Operations.{operation_of}
-use Rattle.wasm_ops.specs.Values.{bits_of, width_of, modulus, signed, unsigned}
+use Rattle.wasm_ops.specs.Operations.{operation_of, operand_of, result_of}
+use Rattle.wasm_ops.specs.Values.{bits_of, width_of, modulus, signed, unsigned, IsOfType}
 
 -- whether the comparison holds
 abbrev pub holds : ValType → Relation → ℕ → ℕ → Bool
@@ -98,21 +98,28 @@ two_operands ExtendS _ _ = Ok 0
 two_operands ExtendU _ _ = Ok 0
 
 -- a quotient or a remainder is computed
-abbrev pub IsDivision : Operation → Type 0
-IsDivision (Compute _ DivS) = Unit {0}
-IsDivision (Compute _ DivU) = Unit {0}
-IsDivision (Compute _ RemS) = Unit {0}
-IsDivision (Compute _ RemU) = Unit {0}
+abbrev pub IsDivision : Option Operation → Type 0
+IsDivision (Some (Compute _ DivS)) = Unit {0}
+IsDivision (Some (Compute _ DivU)) = Unit {0}
+IsDivision (Some (Compute _ RemS)) = Unit {0}
+IsDivision (Some (Compute _ RemU)) = Unit {0}
 IsDivision _ = ⊥
 
 -- a signed quotient of the least number by -1, which would be one more than the greatest
-abbrev pub Overflows : Operation → ℕ → ℕ → Type 0
-Overflows (Compute t DivS) a b = (signed t a ≡ neg_ℤ (pos (2 ^ (bits_of t - 1)))) × (signed t b ≡ neg_ℤ (pos 1))
+abbrev pub Overflows : Option Operation → ℕ → ℕ → Type 0
+Overflows (Some (Compute t DivS)) a b = (signed t a ≡ neg_ℤ (pos (2 ^ (bits_of t - 1)))) × (signed t b ≡ neg_ℤ (pos 1))
 Overflows _ _ _ = ⊥
 
--- what the operator with this byte gives
-abbrev pub unary_result : (byte a : ℕ) → ℕ
-unary_result byte a = one_operand (operation_of byte) a
+-- the number is an operand of the operator with this byte; it is a result of it
+abbrev pub IsOperand : (byte n : ℕ) → Type 0
+IsOperand byte n = IfSome (operation_of byte) (λ operation. IsOfType (operand_of operation) n)
 
-abbrev pub binary_result : (byte a b : ℕ) → Result ℕ Trap
-binary_result byte a b = two_operands (operation_of byte) a b
+abbrev pub IsResult : (byte n : ℕ) → Type 0
+IsResult byte n = IfSome (operation_of byte) (λ operation. IsOfType (result_of operation) n)
+
+-- what the operator with this byte gives; nothing where it is no integer operator
+abbrev pub unary_result : (byte a : ℕ) → Option ℕ
+unary_result byte a = option_map (λ operation. one_operand operation a) (operation_of byte)
+
+abbrev pub binary_result : (byte a b : ℕ) → Option (Result ℕ Trap)
+binary_result byte a b = option_map (λ operation. two_operands operation a b) (operation_of byte)

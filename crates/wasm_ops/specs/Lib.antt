@@ -1,6 +1,7 @@
 pub mod Arithmetic
 pub mod Input
 pub mod IntOps
+pub mod Limits
 pub mod NameInput
 pub mod Nested
 pub mod NumberInput
@@ -9,3 +10,4 @@ pub mod Operations
 pub mod Sequence
 pub mod Traps
 pub mod Values
+pub mod WellFormed

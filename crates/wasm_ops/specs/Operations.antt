@@ -1,67 +1,70 @@
 -- What each integer operator does, from its byte, and which types it takes and gives (WebAssembly Core 1.0, sections 2.4.1, 3.3.1 and 5.4.5).
-use Rattle.std.specs.Prelude.{ℕ, ◌-◌, Bool, true, false, ◌==◌, if◌then◌else◌}
-use Rattle.wasm_ops.specs.IntOps.{is_between}
+use Rattle.std.specs.Prelude.{◌≡◌, ℕ, ◌+◌, Bool, true, false, ◌==◌, nat_lt, if◌then◌else◌, List, [], ◌∷◌, ◌++◌, Option, Some, None, option_map}
 use Rattle.wasm_ops.specs.declared.types.ValType.{ValType}
 use Rattle.wasm_ops.specs.declared.types.ValType.TheVariants.{I32, I64}
-use Rattle.wasm_ops.specs.declared.operations.Relation.{Relation}
 use Rattle.wasm_ops.specs.declared.operations.Relation.TheVariants.{Eq, Ne, LtS, LtU, GtS, GtU, LeS, LeU, GeS, GeU}
-use Rattle.wasm_ops.specs.declared.operations.BitCount.{BitCount}
 use Rattle.wasm_ops.specs.declared.operations.BitCount.TheVariants.{Clz, Ctz, Popcnt}
-use Rattle.wasm_ops.specs.declared.operations.Arithmetic.{Arithmetic}
 use Rattle.wasm_ops.specs.declared.operations.Arithmetic.TheVariants.{Add, Sub, Mul, DivS, DivU, RemS, RemU, And, Or, Xor, Shl, ShrS, ShrU, Rotl, Rotr}
 use Rattle.wasm_ops.specs.declared.operations.Operation.{Operation}
 use Rattle.wasm_ops.specs.declared.operations.Operation.TheVariants.{Eqz, Compare, Count, Compute, Wrap, ExtendS, ExtendU}
 
--- the comparison at this place of the standard's order
-abbrev pub relation_at : ℕ → Relation
-relation_at place =
-    if place == 0 then Eq else (
-    if place == 1 then Ne else (
-    if place == 2 then LtS else (
-    if place == 3 then LtU else (
-    if place == 4 then GtS else (
-    if place == 5 then GtU else (
-    if place == 6 then LeS else (
-    if place == 7 then LeU else (
-    if place == 8 then GeS else GeU))))))))
+-- The one table of the integer operators, in the standard's order. Which bytes they are, how many operands they take, and of which types, follows from it.
 
--- likewise the count of bits
-abbrev pub bit_count_at : ℕ → BitCount
-bit_count_at place = if place == 0 then Clz else (if place == 1 then Ctz else Popcnt)
+-- a row: a byte, and what its operator does
+abbrev pub Rows : Type 0
+Rows = List (ℕ × Operation)
 
--- likewise the operation on two integers that gives a third
-abbrev pub arithmetic_at : ℕ → Arithmetic
-arithmetic_at place =
-    if place == 0 then Add else (
-    if place == 1 then Sub else (
-    if place == 2 then Mul else (
-    if place == 3 then DivS else (
-    if place == 4 then DivU else (
-    if place == 5 then RemS else (
-    if place == 6 then RemU else (
-    if place == 7 then And else (
-    if place == 8 then Or else (
-    if place == 9 then Xor else (
-    if place == 10 then Shl else (
-    if place == 11 then ShrS else (
-    if place == 12 then ShrU else (
-    if place == 13 then Rotl else Rotr)))))))))))))
+-- rows of bytes that follow one another, from the first byte on
+abbrev pub rows_from : (byte : ℕ) → List Operation → Rows
+rows_from byte [] = []
+rows_from byte (operation ∷ operations) = (byte, operation) ∷ rows_from (byte + 1) operations
 
--- what the operator with this byte does
-abbrev pub operation_of : ℕ → Operation
+-- the test for 0 and the comparisons
+abbrev pub comparisons : ValType → List Operation
+comparisons t =
+    Eqz t ∷ Compare t Eq ∷ Compare t Ne ∷ Compare t LtS ∷ Compare t LtU ∷ Compare t GtS ∷ Compare t GtU
+    ∷ Compare t LeS ∷ Compare t LeU ∷ Compare t GeS ∷ Compare t GeU ∷ []
+
+-- the operations whose result is of the type of their operands
+abbrev pub computations : ValType → List Operation
+computations t =
+    Count t Clz ∷ Count t Ctz ∷ Count t Popcnt ∷ Compute t Add ∷ Compute t Sub ∷ Compute t Mul
+    ∷ Compute t DivS ∷ Compute t DivU ∷ Compute t RemS ∷ Compute t RemU ∷ Compute t And ∷ Compute t Or ∷ Compute t Xor
+    ∷ Compute t Shl ∷ Compute t ShrS ∷ Compute t ShrU ∷ Compute t Rotl ∷ Compute t Rotr ∷ []
+
+abbrev pub i32_comparisons : Rows
+i32_comparisons = rows_from 0x45 (comparisons I32)
+
+abbrev pub i64_comparisons : Rows
+i64_comparisons = rows_from 0x50 (comparisons I64)
+
+abbrev pub i32_computations : Rows
+i32_computations = rows_from 0x67 (computations I32)
+
+abbrev pub i64_computations : Rows
+i64_computations = rows_from 0x79 (computations I64)
+
+abbrev pub conversions : Rows
+conversions = (0xA7, Wrap) ∷ (0xAC, ExtendS) ∷ (0xAD, ExtendU) ∷ []
+
+abbrev pub all_rows : Rows
+all_rows = i32_comparisons ++ i64_comparisons ++ i32_computations ++ i64_computations ++ conversions
+
+-- what stands in the rows for the byte
+abbrev pub look_up : Rows → (byte : ℕ) → Option Operation
+look_up [] byte = None
+look_up (row ∷ rows) byte = if byte == row.0 then Some row.1 else look_up rows byte
+
+-- what the operator with this byte does, if the byte is that of an integer operator
+abbrev pub operation_of : (byte : ℕ) → Option Operation
 operation_of byte =
-    if byte == 0x45 then Eqz I32 else (
-    if is_between 0x46 0x4F byte then Compare I32 (relation_at (byte - 0x46)) else (
-    if byte == 0x50 then Eqz I64 else (
-    if is_between 0x51 0x5A byte then Compare I64 (relation_at (byte - 0x51)) else (
-    if is_between 0x67 0x69 byte then Count I32 (bit_count_at (byte - 0x67)) else (
-    if is_between 0x6A 0x78 byte then Compute I32 (arithmetic_at (byte - 0x6A)) else (
-    if is_between 0x79 0x7B byte then Count I64 (bit_count_at (byte - 0x79)) else (
-    if is_between 0x7C 0x8A byte then Compute I64 (arithmetic_at (byte - 0x7C)) else (
-    if byte == 0xA7 then Wrap else (
-    if byte == 0xAC then ExtendS else ExtendU)))))))))
+    if nat_lt byte 0x50 then look_up i32_comparisons byte else (
+    if nat_lt byte 0x67 then look_up i64_comparisons byte else (
+    if nat_lt byte 0x79 then look_up i32_computations byte else (
+    if nat_lt byte 0xA7 then look_up i64_computations byte else
+    look_up conversions byte)))
 
--- the operator takes one operand; every other one takes two
+-- the operation takes one operand; every other one takes two
 abbrev pub takes_one : Operation → Bool
 takes_one (Eqz _) = true
 takes_one (Count _ _) = true
@@ -70,6 +73,13 @@ takes_one (Compute _ _) = false
 takes_one Wrap = true
 takes_one ExtendS = true
 takes_one ExtendU = true
+
+-- the byte is that of an integer operator of one operand; of two
+abbrev pub IsOfOne : (byte : ℕ) → Type 0
+IsOfOne byte = option_map takes_one (operation_of byte) ≡ Some true
+
+abbrev pub IsOfTwo : (byte : ℕ) → Type 0
+IsOfTwo byte = option_map takes_one (operation_of byte) ≡ Some false
 
 -- the type of each operand
 abbrev pub operand_of : Operation → ValType

@@ -1,19 +1,29 @@
 //! The integer operators on numbers (WebAssembly Core 1.0, section 4.3.2).
-ghost use Rattle.std.specs.Prelude.{◌≡◌, ◌↔◌, ◌⊎◌, IfOk, IfErr, Err, true, false};
-ghost use Rattle.wasm_ops.specs.Operations.{operand_of, operation_of, result_of, takes_one};
+ghost use Rattle.std.specs.Prelude.{◌≡◌, ◌↔◌, ◌⊎◌, IfOk, IfErr, Err, Some, true, false};
+ghost use Rattle.wasm_ops.specs.Operations.{IsOfOne, IsOfTwo, operand_of, operation_of, result_of, takes_one};
 ghost use Rattle.wasm_ops.specs.Values.{IsOfType};
-ghost use Rattle.wasm_ops.specs.Arithmetic.{IsDivision, Overflows, binary_result, two_operands, unary_result};
+ghost use Rattle.wasm_ops.specs.Arithmetic.{IsDivision, IsOperand, IsResult, Overflows, binary_result, two_operands, one_operand, unary_result};
 
 use crate::{IntOp, Operation, Trap, ValType};
 
 /// What an operator of one operand gives for a value of its type. It never traps.
 pub fn apply_unary(op: IntOp, a: u64) -> u64
-    requires takes_one { takes_one (operation_of op) ≡ true }
-    requires a_of_its_type { IsOfType (operand_of (operation_of op)) a }
-    ensures value { result ≡ unary_result op a }
-    ensures of_its_type { IsOfType (result_of (operation_of op)) result }
+    requires takes_one { IsOfOne op }
+    requires a_of_its_type { IsOperand op a }
+    ensures value { unary_result op a ≡ Some result }
+    ensures of_its_type { IsResult op result }
 {
-    match op.operation() {
+    count_or_convert(op.operation(), a)
+}
+
+/// What an operation of one operand gives.
+fn count_or_convert(operation: Operation, a: u64) -> u64
+    requires takes_one { takes_one operation ≡ true }
+    requires a_of_its_type { IsOfType (operand_of operation) a }
+    ensures value { result ≡ one_operand operation a }
+    ensures of_its_type { IsOfType (result_of operation) result }
+{
+    match operation {
         Operation::Eqz(_) => u64::from(a == 0),
         Operation::Count(ValType::I32, count) => u64::from(count.of_i32(a as u32)),
         Operation::Count(ValType::I64, count) => u64::from(count.of_i64(a)),
@@ -28,11 +38,11 @@ pub fn apply_unary(op: IntOp, a: u64) -> u64
 ///
 /// A comparison gives 1 where it holds, and else 0.
 pub fn apply_binary(op: IntOp, a: u64, b: u64) -> Result<u64, Trap>
-    requires takes_two { takes_one (operation_of op) ≡ false }
-    requires a_of_its_type { IsOfType (operand_of (operation_of op)) a }
-    requires b_of_its_type { IsOfType (operand_of (operation_of op)) b }
-    ensures value { result ≡ binary_result op a b }
-    ensures of_its_type { IfOk result (IsOfType (result_of (operation_of op))) }
+    requires takes_two { IsOfTwo op }
+    requires a_of_its_type { IsOperand op a }
+    requires b_of_its_type { IsOperand op b }
+    ensures value { binary_result op a b ≡ Some result }
+    ensures of_its_type { IfOk result (IsResult op) }
 
     // Both traps come exactly here, and no other one does.
     ensures by_zero { (result ≡ Err Trap.DivideByZero) ↔ (IsDivision (operation_of op) × (b ≡ 0)) }

@@ -2,11 +2,12 @@
 ghost use Rattle.std.specs.Prelude.{◌≡◌, Some, None, if◌then◌else◌};
 ghost use Rattle.wasm_ops.specs.IntOps.{is_int_op};
 
+use crate::operations::operation_of;
 use std::marker::Model;
 
 /// An integer operator. Contracts see it as its byte in the binary format (section 5.4.5).
 ///
-/// Those of one operand are `eqz`, `clz`, `ctz`, `popcnt`, `i32.wrap_i64`, `i64.extend_i32_s` and `i64.extend_i32_u`; all others take two.
+/// `operation` says what it does; with that come how many operands it takes and of which types.
 #[derive(Clone, Copy, Debug, PartialEq, Eq)]
 pub struct IntOp {
     byte: u8,
@@ -30,9 +31,9 @@ impl IntOp {
     pub fn from_byte(byte: u8) -> Option<IntOp>
         ensures { result ≡ (if is_int_op byte then Some byte else None) }
     {
-        match byte {
-            0x45..=0x5A | 0x67..=0x8A | 0xA7 | 0xAC | 0xAD => Some(IntOp { byte }),
-            _ => None,
+        match operation_of(byte) {
+            Some(_) => Some(IntOp { byte }),
+            None => None,
         }
     }
 

@@ -1,6 +1,6 @@
 //! What each integer operator does, and which types it takes and gives (WebAssembly Core 1.0, sections 2.4.1 and 3.3.1).
-ghost use Rattle.std.specs.Prelude.{◌≡◌};
-ghost use Rattle.wasm_ops.specs.Operations.{relation_at, bit_count_at, arithmetic_at, operation_of, takes_one, operand_of, result_of};
+ghost use Rattle.std.specs.Prelude.{◌≡◌, Some};
+ghost use Rattle.wasm_ops.specs.Operations.{i32_comparisons, i64_comparisons, i32_computations, i64_computations, conversions, look_up, operation_of, takes_one, operand_of, result_of};
 
 use crate::{IntOp, ValType};
 
@@ -173,70 +173,134 @@ impl Operation {
 impl IntOp {
     /// What the operator does.
     pub fn operation(&self) -> Operation
-        ensures { result ≡ operation_of self.now }
+        ensures { operation_of self.now ≡ Some result }
     {
-        let byte = self.byte();
-        match byte {
-            0x45 => Operation::Eqz(ValType::I32),
-            0x46..=0x4F => Operation::Compare(ValType::I32, relation_at(byte - 0x46)),
-            0x50 => Operation::Eqz(ValType::I64),
-            0x51..=0x5A => Operation::Compare(ValType::I64, relation_at(byte - 0x51)),
-            0x67..=0x69 => Operation::Count(ValType::I32, bit_count_at(byte - 0x67)),
-            0x6A..=0x78 => Operation::Compute(ValType::I32, arithmetic_at(byte - 0x6A)),
-            0x79..=0x7B => Operation::Count(ValType::I64, bit_count_at(byte - 0x79)),
-            0x7C..=0x8A => Operation::Compute(ValType::I64, arithmetic_at(byte - 0x7C)),
-            0xA7 => Operation::Wrap,
-            0xAC => Operation::ExtendS,
-            _ => Operation::ExtendU,
+        match operation_of(self.byte()) {
+            Some(operation) => operation,
+            None => unreachable!(),
         }
     }
 }
 
-fn relation_at(place: u8) -> Relation
-    ensures { result ≡ relation_at place }
+/// What the operator with this byte does, if the byte is that of an integer operator: one row a byte, in the standard's order (section 5.4.5).
+pub(crate) fn operation_of(byte: u8) -> Option<Operation>
+    ensures { result ≡ operation_of byte }
 {
-    match place {
-        0 => Relation::Eq,
-        1 => Relation::Ne,
-        2 => Relation::LtS,
-        3 => Relation::LtU,
-        4 => Relation::GtS,
-        5 => Relation::GtU,
-        6 => Relation::LeS,
-        7 => Relation::LeU,
-        8 => Relation::GeS,
-        _ => Relation::GeU,
+    if byte < 0x50 {
+        i32_comparison(byte)
+    } else if byte < 0x67 {
+        i64_comparison(byte)
+    } else if byte < 0x79 {
+        i32_computation(byte)
+    } else if byte < 0xA7 {
+        i64_computation(byte)
+    } else {
+        conversion(byte)
     }
 }
 
-fn bit_count_at(place: u8) -> BitCount
-    ensures { result ≡ bit_count_at place }
+fn i32_comparison(byte: u8) -> Option<Operation>
+    ensures { result ≡ look_up i32_comparisons byte }
 {
-    match place {
-        0 => BitCount::Clz,
-        1 => BitCount::Ctz,
-        _ => BitCount::Popcnt,
-    }
+    let operation = match byte {
+        0x45 => Operation::Eqz(ValType::I32),
+        0x46 => Operation::Compare(ValType::I32, Relation::Eq),
+        0x47 => Operation::Compare(ValType::I32, Relation::Ne),
+        0x48 => Operation::Compare(ValType::I32, Relation::LtS),
+        0x49 => Operation::Compare(ValType::I32, Relation::LtU),
+        0x4A => Operation::Compare(ValType::I32, Relation::GtS),
+        0x4B => Operation::Compare(ValType::I32, Relation::GtU),
+        0x4C => Operation::Compare(ValType::I32, Relation::LeS),
+        0x4D => Operation::Compare(ValType::I32, Relation::LeU),
+        0x4E => Operation::Compare(ValType::I32, Relation::GeS),
+        0x4F => Operation::Compare(ValType::I32, Relation::GeU),
+        _ => return None,
+    };
+    Some(operation)
 }
 
-fn arithmetic_at(place: u8) -> Arithmetic
-    ensures { result ≡ arithmetic_at place }
+fn i64_comparison(byte: u8) -> Option<Operation>
+    ensures { result ≡ look_up i64_comparisons byte }
 {
-    match place {
-        0 => Arithmetic::Add,
-        1 => Arithmetic::Sub,
-        2 => Arithmetic::Mul,
-        3 => Arithmetic::DivS,
-        4 => Arithmetic::DivU,
-        5 => Arithmetic::RemS,
-        6 => Arithmetic::RemU,
-        7 => Arithmetic::And,
-        8 => Arithmetic::Or,
-        9 => Arithmetic::Xor,
-        10 => Arithmetic::Shl,
-        11 => Arithmetic::ShrS,
-        12 => Arithmetic::ShrU,
-        13 => Arithmetic::Rotl,
-        _ => Arithmetic::Rotr,
-    }
+    let operation = match byte {
+        0x50 => Operation::Eqz(ValType::I64),
+        0x51 => Operation::Compare(ValType::I64, Relation::Eq),
+        0x52 => Operation::Compare(ValType::I64, Relation::Ne),
+        0x53 => Operation::Compare(ValType::I64, Relation::LtS),
+        0x54 => Operation::Compare(ValType::I64, Relation::LtU),
+        0x55 => Operation::Compare(ValType::I64, Relation::GtS),
+        0x56 => Operation::Compare(ValType::I64, Relation::GtU),
+        0x57 => Operation::Compare(ValType::I64, Relation::LeS),
+        0x58 => Operation::Compare(ValType::I64, Relation::LeU),
+        0x59 => Operation::Compare(ValType::I64, Relation::GeS),
+        0x5A => Operation::Compare(ValType::I64, Relation::GeU),
+        _ => return None,
+    };
+    Some(operation)
+}
+
+fn i32_computation(byte: u8) -> Option<Operation>
+    ensures { result ≡ look_up i32_computations byte }
+{
+    let operation = match byte {
+        0x67 => Operation::Count(ValType::I32, BitCount::Clz),
+        0x68 => Operation::Count(ValType::I32, BitCount::Ctz),
+        0x69 => Operation::Count(ValType::I32, BitCount::Popcnt),
+        0x6A => Operation::Compute(ValType::I32, Arithmetic::Add),
+        0x6B => Operation::Compute(ValType::I32, Arithmetic::Sub),
+        0x6C => Operation::Compute(ValType::I32, Arithmetic::Mul),
+        0x6D => Operation::Compute(ValType::I32, Arithmetic::DivS),
+        0x6E => Operation::Compute(ValType::I32, Arithmetic::DivU),
+        0x6F => Operation::Compute(ValType::I32, Arithmetic::RemS),
+        0x70 => Operation::Compute(ValType::I32, Arithmetic::RemU),
+        0x71 => Operation::Compute(ValType::I32, Arithmetic::And),
+        0x72 => Operation::Compute(ValType::I32, Arithmetic::Or),
+        0x73 => Operation::Compute(ValType::I32, Arithmetic::Xor),
+        0x74 => Operation::Compute(ValType::I32, Arithmetic::Shl),
+        0x75 => Operation::Compute(ValType::I32, Arithmetic::ShrS),
+        0x76 => Operation::Compute(ValType::I32, Arithmetic::ShrU),
+        0x77 => Operation::Compute(ValType::I32, Arithmetic::Rotl),
+        0x78 => Operation::Compute(ValType::I32, Arithmetic::Rotr),
+        _ => return None,
+    };
+    Some(operation)
+}
+
+fn i64_computation(byte: u8) -> Option<Operation>
+    ensures { result ≡ look_up i64_computations byte }
+{
+    let operation = match byte {
+        0x79 => Operation::Count(ValType::I64, BitCount::Clz),
+        0x7A => Operation::Count(ValType::I64, BitCount::Ctz),
+        0x7B => Operation::Count(ValType::I64, BitCount::Popcnt),
+        0x7C => Operation::Compute(ValType::I64, Arithmetic::Add),
+        0x7D => Operation::Compute(ValType::I64, Arithmetic::Sub),
+        0x7E => Operation::Compute(ValType::I64, Arithmetic::Mul),
+        0x7F => Operation::Compute(ValType::I64, Arithmetic::DivS),
+        0x80 => Operation::Compute(ValType::I64, Arithmetic::DivU),
+        0x81 => Operation::Compute(ValType::I64, Arithmetic::RemS),
+        0x82 => Operation::Compute(ValType::I64, Arithmetic::RemU),
+        0x83 => Operation::Compute(ValType::I64, Arithmetic::And),
+        0x84 => Operation::Compute(ValType::I64, Arithmetic::Or),
+        0x85 => Operation::Compute(ValType::I64, Arithmetic::Xor),
+        0x86 => Operation::Compute(ValType::I64, Arithmetic::Shl),
+        0x87 => Operation::Compute(ValType::I64, Arithmetic::ShrS),
+        0x88 => Operation::Compute(ValType::I64, Arithmetic::ShrU),
+        0x89 => Operation::Compute(ValType::I64, Arithmetic::Rotl),
+        0x8A => Operation::Compute(ValType::I64, Arithmetic::Rotr),
+        _ => return None,
+    };
+    Some(operation)
+}
+
+fn conversion(byte: u8) -> Option<Operation>
+    ensures { result ≡ look_up conversions byte }
+{
+    let operation = match byte {
+        0xA7 => Operation::Wrap,
+        0xAC => Operation::ExtendS,
+        0xAD => Operation::ExtendU,
+        _ => return None,
+    };
+    Some(operation)
 }

@@ -31,7 +31,7 @@ pub struct Access {
     pub value: ValType,
 
     /// How many bytes lie in memory: 1, 2, 4 or 8, and no more than the value has.
-    pub width: u32,
+    pub width: u8,
 
     /// Whether a load of fewer bytes than the value has repeats their sign in the others.
     /// It is false for a store and for a load of the whole value.

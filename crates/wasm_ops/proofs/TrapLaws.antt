@@ -1,5 +1,5 @@
 -- When the integer operators trap.
-use Rattle.std.proofs.Common.{◌≡◌, ◌≢◌, ℕ, ◌-◌, ◌^◌, ◌<◌, ◌↔◌, ◌⊎◌, ◌==◌, ◌&&◌, Bool, true, false, Some, Result, Ok, Err, IfErr, if◌then◌else◌, int_div, int_rem, ◌/◌, ◌%◌, refl, inl, inr, arith, pos, neg_ℤ}
+use Rattle.std.proofs.Common.{◌≡◌, ◌≢◌, ℕ, ◌-◌, ◌^◌, ◌<◌, ◌↔◌, ◌⊎◌, ◌==◌, ◌&&◌, Bool, true, false, Option, Some, IfSome, Result, Ok, Err, IfErr, if◌then◌else◌, int_div, int_rem, ◌/◌, ◌%◌, refl, subst, inl, inr, arith, pos, neg_ℤ}
 use Rattle.std.proofs.lemmas.Bool.Decides.{nat_tests}
 use Rattle.std.proofs.lemmas.Int.{ints}
 use Rattle.wasm_ops.specs.declared.types.ValType.{ValType}
@@ -9,9 +9,9 @@ use Rattle.wasm_ops.specs.declared.traps.Trap.TheVariants.{DivideByZero, Integer
 use Rattle.wasm_ops.specs.declared.operations.Arithmetic.TheVariants.{DivS, DivU, RemS, RemU}
 use Rattle.wasm_ops.specs.declared.operations.Operation.{Operation}
 use Rattle.wasm_ops.specs.declared.operations.Operation.TheVariants.{Compute}
-use Rattle.wasm_ops.specs.Operations.{operand_of}
+use Rattle.wasm_ops.specs.Operations.{operand_of, operation_of}
 use Rattle.wasm_ops.specs.Values.{bits_of, modulus, signed, unsigned, IsOfType}
-use Rattle.wasm_ops.specs.Arithmetic.{two_operands, IsDivision, Overflows}
+use Rattle.wasm_ops.specs.Arithmetic.{two_operands, IsDivision, IsOperand, Overflows}
 
 -- a number is no trap
 ok_never : (x : ℕ) (trap : Trap) (P : Type 0) → Ok x ≡ Err trap → P
@@ -104,3 +104,8 @@ two_operands-traps (Compute t RemS) a b =
     tested_trap (b == 0) DivideByZero IsOfDivision (Ok (unsigned t (int_rem (signed t a) (signed t b)))) (inl refl) tt
 two_operands-traps (Compute t RemU) a b = tested_trap (b == 0) DivideByZero IsOfDivision (Ok (a % b)) (inl refl) tt
 two_operands-traps _ a b = tt
+
+-- an operand of the byte's operator is one of what it does
+pub operand_of_its_type
+    : (byte n : ℕ) (o : Operation) → operation_of byte ≡ Some o → IsOperand byte n → IsOfType (operand_of o) n
+operand_of_its_type byte n o e is = subst (λ (x : Option Operation). IfSome x (λ p. IsOfType (operand_of p) n)) e is

@@ -1,5 +1,5 @@
 -- What holds of each module, and of each body, that was read from bytes, before it is typed (WebAssembly Core 1.0, sections 2.2 to 2.5 and 5.4).
-use Rattle.std.specs.Prelude.{◌≡◌, ◌⊎◌, ℕ, ◌+◌, ◌*◌, ◌^◌, ◌<◌, ◌≤◌, true, false, List, length}
+use Rattle.std.specs.Prelude.{◌≡◌, ◌⊎◌, ℕ, ◌+◌, ◌*◌, ◌^◌, ◌<◌, ◌≤◌, true, false, length}
 use Rattle.std.specs.List.{AllByRecursion}
 use Rattle.wasm_ops.specs.declared.modules.Body.{Body}
 use Rattle.wasm_ops.specs.declared.modules.ByteSegment.{ByteSegment}

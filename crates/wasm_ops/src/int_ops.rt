@@ -1,8 +1,9 @@
 //! The integer operators (WebAssembly Core 1.0, section 2.4.1).
 ghost use Rattle.std.specs.Prelude.{◌≡◌, Some, None, if◌then◌else◌};
 ghost use Rattle.wasm_ops.specs.IntOps.{is_int_op};
+ghost use Rattle.wasm_ops.specs.Operations.{operation_of};
 
-use crate::operations::operation_of;
+use crate::operations::{Operation, operation_of};
 use std::marker::Model;
 
 /// An integer operator. Contracts see it as its byte in the binary format (section 5.4.5).
@@ -42,5 +43,15 @@ impl IntOp {
         ensures { result ≡ self.now }
     {
         self.byte
+    }
+
+    /// What the operator does.
+    pub fn operation(&self) -> Operation
+        ensures { operation_of self.now ≡ Some result }
+    {
+        match operation_of(self.byte) {
+            Some(operation) => operation,
+            None => unreachable!(),
+        }
     }
 }

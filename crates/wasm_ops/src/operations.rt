@@ -2,7 +2,7 @@
 ghost use Rattle.std.specs.Prelude.{◌≡◌, Some};
 ghost use Rattle.wasm_ops.specs.Operations.{i32_comparisons, i64_comparisons, i32_computations, i64_computations, conversions, look_up, operation_of, takes_one, operand_of, result_of};
 
-use crate::{IntOp, ValType};
+use crate::ValType;
 
 /// A comparison of two integers (`irelop` of the standard).
 ///
@@ -166,18 +166,6 @@ impl Operation {
             Operation::Eqz(_) | Operation::Compare(_, _) | Operation::Wrap => ValType::I32,
             Operation::Count(value, _) | Operation::Compute(value, _) => value,
             Operation::ExtendS | Operation::ExtendU => ValType::I64,
-        }
-    }
-}
-
-impl IntOp {
-    /// What the operator does.
-    pub fn operation(&self) -> Operation
-        ensures { operation_of self.now ≡ Some result }
-    {
-        match operation_of(self.byte()) {
-            Some(operation) => operation,
-            None => unreachable!(),
         }
     }
 }

@@ -7,6 +7,7 @@ pub mod Nested
 pub mod NumberInput
 pub mod Numbers
 pub mod Operations
+pub mod Refusals
 pub mod Sequence
 pub mod Traps
 pub mod Values

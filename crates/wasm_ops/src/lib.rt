@@ -24,7 +24,7 @@ mod types;
 
 pub use arithmetic::{apply_binary, apply_unary};
 pub use cursors::Cursor;
-pub use faults::Fault;
+pub use faults::{Fault, Refusal};
 pub use int_ops::IntOp;
 pub use lists::Items;
 pub use modules::{

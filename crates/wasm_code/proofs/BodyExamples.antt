@@ -2,9 +2,10 @@
 use Rattle.std.proofs.Common.{◌≡◌, [], ◌∷◌, Some, Ok, Err, refl}
 use Rattle.wasm_ops.specs.declared.operators.Op.TheVariants as op
 use Rattle.wasm_ops.specs.declared.types.ValType.TheVariants.{I32, I64}
+use Rattle.wasm_ops.specs.declared.faults.Refusal.TheVariants as refusal
+use Rattle.wasm_ops.specs.Refusals.{fault_at}
 use Rattle.wasm_code.specs.declared.items.Item.TheVariants as item
 use Rattle.wasm_code.specs.declared.items.Opener.TheVariants as opener
-use Rattle.wasm_code.specs.Reading.{fault_at}
 use Rattle.wasm_code.specs.Items.{item_from}
 use Rattle.wasm_code.specs.Locals.{locals_from}
 
@@ -15,26 +16,26 @@ padded_index
 padded_index = refl
 
 -- br_table 1 0, behind four labels
-table
+branch_table
     : item_from 0 (7 ∷ 7 ∷ 7 ∷ 7 ∷ []) (record { at = 5; left = 0x0E ∷ 0x01 ∷ 0x01 ∷ 0x00 ∷ [] })
     ≡ Ok ((item.Operator (op.BrTable 4 1), 7 ∷ 7 ∷ 7 ∷ 7 ∷ 1 ∷ 0 ∷ []), record { at = 9; left = [] })
-table = refl
+branch_table = refl
 
 -- a loop with a result, and one that is too deep, whatever its type
 opening : item_from 999 [] (record { at = 1; left = 0x03 ∷ 0x7E ∷ [] }) ≡ Ok ((item.Opens opener.Loop (Some I64), []), record { at = 3; left = [] })
 opening = refl
 
-too_deep : item_from 1000 [] (record { at = 1; left = 0x03 ∷ 0x00 ∷ [] }) ≡ Err (fault_at 10 1)
+too_deep : item_from 1000 [] (record { at = 1; left = 0x03 ∷ 0x00 ∷ [] }) ≡ Err (fault_at refusal.TooDeep 1)
 too_deep = refl
 
 -- f32.add, a byte that begins nothing, and a memory.size whose last byte is not 00
-float : item_from 0 [] (record { at = 1; left = 0x92 ∷ [] }) ≡ Err (fault_at 5 1)
+float : item_from 0 [] (record { at = 1; left = 0x92 ∷ [] }) ≡ Err (fault_at refusal.FloatOperator 1)
 float = refl
 
-unknown : item_from 0 [] (record { at = 1; left = 0x06 ∷ [] }) ≡ Err (fault_at 6 1)
+unknown : item_from 0 [] (record { at = 1; left = 0x06 ∷ [] }) ≡ Err (fault_at refusal.UnknownOperator 1)
 unknown = refl
 
-reserved : item_from 0 [] (record { at = 1; left = 0x3F ∷ 0x01 ∷ [] }) ≡ Err (fault_at 13 2)
+reserved : item_from 0 [] (record { at = 1; left = 0x3F ∷ 0x01 ∷ [] }) ≡ Err (fault_at refusal.Reserved 2)
 reserved = refl
 
 -- two groups of locals, and a group by which there are too many
@@ -43,5 +44,5 @@ groups
     ≡ Ok (I32 ∷ I32 ∷ I64 ∷ [], record { at = 5; left = 0x0B ∷ [] })
 groups = refl
 
-too_many : locals_from (record { at = 0; left = 0x01 ∷ 0x81 ∷ 0x08 ∷ 0x7F ∷ [] }) ≡ Err (fault_at 11 1)
+too_many : locals_from (record { at = 0; left = 0x01 ∷ 0x81 ∷ 0x08 ∷ 0x7F ∷ [] }) ≡ Err (fault_at refusal.TooManyLocals 1)
 too_many = refl

@@ -7,12 +7,14 @@ use Rattle.wasm_ops.specs.declared.operators.Op.TheVariants as op
 use Rattle.wasm_ops.specs.declared.types.ValType.{ValType}
 use Rattle.wasm_ops.specs.Input.{Input}
 use Rattle.wasm_ops.specs.Sequence.{Sequence, flat, flat_body}
+use Rattle.wasm_ops.specs.declared.faults.Refusal.TheVariants as refusal
+use Rattle.wasm_ops.specs.Refusals.{fault_at}
 use Rattle.wasm_code.specs.declared.items.Item.{Item}
 use Rattle.wasm_code.specs.declared.items.Item.TheVariants as item
 use Rattle.wasm_code.specs.declared.items.Opener.TheVariants as opener
 use Rattle.wasm_code.specs.declared.items.Kind.{Kind}
 use Rattle.wasm_code.specs.declared.items.Kind.TheVariants as kind
-use Rattle.wasm_code.specs.Reading.{Read, fault_at}
+use Rattle.wasm_code.specs.Reading.{Read}
 use Rattle.wasm_code.specs.Items.{Parsed, RefusesItem, item_from}
 use Rattle.wasm_code.specs.Locals.{ReadsLocals, RefusesLocals, locals_from}
 use Rattle.wasm_code.specs.Bodies.{items_of, open_behind, Place, AreCut, beginning, first_place, SpellsBody, Misplaced, Remains, RefusesNext, RefusesBody}
@@ -48,13 +50,13 @@ same_end bytes x y start other is js a b one two cut also halts ends =
 
 -- A body and a fault are never both.
 
-clashes : (here : Place) (targets : List ℕ) (after : Input) (fault : Fault) → ReadsAt here (item.Close, targets) after → after.left ≡ [] → RefusesNext here fault → ⊥
-clashes here targets after fault closes whole (inl refuses) = no_item here (item.Close, targets) after fault closes refuses
+clashes : (here : Place) (targets : List ℕ) (after : Input) (fault : Fault) → ReadsAt here (item.End, targets) after → after.left ≡ [] → RefusesNext here fault → ⊥
+clashes here targets after fault closes whole (inl refuses) = no_item here (item.End, targets) after fault closes refuses
 clashes here targets after fault closes whole (inr (inl misplaced)) =
-    let same = (one_item here (item.Close, targets) (item.Turn, misplaced.targets) after misplaced.after closes misplaced.spelt).0 in
+    let same = (one_item here (item.End, targets) (item.Else, misplaced.targets) after misplaced.after closes misplaced.spelt).0 in
     let items = ap (λ (p : Parsed). p.0) same in cc
 clashes here targets after fault closes whole (inr (inr remains)) =
-    let same = (one_item here (item.Close, targets) (item.Close, remains.targets) after remains.after closes remains.spelt).1 in
+    let same = (one_item here (item.End, targets) (item.End, remains.targets) after remains.after closes remains.spelt).1 in
     let lefts = ap (λ (z : Input). z.left) same in
     let more = remains.more in cc
 
@@ -92,9 +94,9 @@ one_body bytes x y one two =
     let same =
     same_end bytes x.locals y.locals one.start two.start (items_of one.sequence) (items_of two.sequence) one.last two.last
     one.locals two.locals one.cut two.cut ends also in
-    let P : Place → Type 0 = λ p. ReadsAt p (item.Close, y.targets) two.after in
+    let P : Place → Type 0 = λ p. ReadsAt p (item.End, y.targets) two.after in
     let closes = subst P (sym same.1) two.closed in
-    let parsed = (one_item one.last (item.Close, x.targets) (item.Close, y.targets) one.after two.after one.closed closes).0 in
+    let parsed = (one_item one.last (item.End, x.targets) (item.End, y.targets) one.after two.after one.closed closes).0 in
     let locals = (one_locals bytes x.locals y.locals one.start two.start one.locals two.locals).0 in
     let ops = one.laid_out ∙ same_flat one.sequence two.sequence same.0 ∙ sym two.laid_out in
     same_body x y locals ops (ap (λ (p : Parsed). p.1) parsed)
@@ -106,23 +108,23 @@ one_misplaced here f g one two = one.told ∙ sym two.told
 
 apart : (here : Place) (f g : Fault) → Misplaced here f → Remains here g → ⊥
 apart here f g one two =
-    let same = (one_item here (item.Turn, one.targets) (item.Close, two.targets) one.after two.after one.spelt two.spelt).0 in
+    let same = (one_item here (item.Else, one.targets) (item.End, two.targets) one.after two.after one.spelt two.spelt).0 in
     let items = ap (λ (p : Parsed). p.0) same in cc
 
 one_next : (here : Place) (f g : Fault) → RefusesNext here f → RefusesNext here g → f ≡ g
 one_next here f g (inl one) (inl two) =
     halts.one_fault (item_from (length here.blocks) here.targets here.ahead) (ReadsAt here)
     (RefusesItem (length here.blocks) here.targets here.ahead) (item_decides (length here.blocks) here.targets here.ahead) f g one two
-one_next here f g (inl one) (inr (inl two)) = absurd (no_item here (item.Turn, two.targets) two.after f two.spelt one)
-one_next here f g (inl one) (inr (inr two)) = absurd (no_item here (item.Close, two.targets) two.after f two.spelt one)
-one_next here f g (inr (inl one)) (inl two) = absurd (no_item here (item.Turn, one.targets) one.after g one.spelt two)
-one_next here f g (inr (inr one)) (inl two) = absurd (no_item here (item.Close, one.targets) one.after g one.spelt two)
+one_next here f g (inl one) (inr (inl two)) = absurd (no_item here (item.Else, two.targets) two.after f two.spelt one)
+one_next here f g (inl one) (inr (inr two)) = absurd (no_item here (item.End, two.targets) two.after f two.spelt one)
+one_next here f g (inr (inl one)) (inl two) = absurd (no_item here (item.Else, one.targets) one.after g one.spelt two)
+one_next here f g (inr (inr one)) (inl two) = absurd (no_item here (item.End, one.targets) one.after g one.spelt two)
 one_next here f g (inr (inl one)) (inr (inl two)) = one_misplaced here f g one two
 one_next here f g (inr (inl one)) (inr (inr two)) = absurd (apart here f g one two)
 one_next here f g (inr (inr one)) (inr (inl two)) = absurd (apart here g f two one)
 one_next here f g (inr (inr one)) (inr (inr two)) =
-    let same = (one_item here (item.Close, one.targets) (item.Close, two.targets) one.after two.after one.spelt two.spelt).1 in
-    one.told ∙ ap (λ (z : Input). fault_at 14 z.at) same ∙ sym two.told
+    let same = (one_item here (item.End, one.targets) (item.End, two.targets) one.after two.after one.spelt two.spelt).1 in
+    one.told ∙ ap (λ (z : Input). fault_at refusal.RestAfterEnd z.at) same ∙ sym two.told
 
 pub one_refusal : (bytes : List ℕ) (f g : Fault) → RefusesBody bytes f → RefusesBody bytes g → f ≡ g
 one_refusal bytes f g (inl one) (inl two) =
@@ -142,38 +144,38 @@ one_refusal bytes f g (inr one) (inr two) =
 abbrev Leads : Place → Type 0
 Leads start =
     ((items : List Item) × (last : Place) × (targets : List ℕ) × (after : Input) × AreCut items start last
-    × (last.blocks ≡ []) × ReadsAt last (item.Close, targets) after × (after.left ≡ []))
+    × (last.blocks ≡ []) × ReadsAt last (item.End, targets) after × (after.left ≡ []))
     ⊎ ((items : List Item) × (here : Place) × (fault : Fault) × AreCut items start here × RefusesNext here fault)
 
 -- an item that stands, and one that does not
 abbrev Goes : Item → List Kind → Type 0
 Goes passed blocks =
     ((next : List Kind) × (open_behind passed blocks ≡ Some next))
-    ⊎ (((passed ≡ item.Turn) × (open_behind item.Turn blocks ≡ None)) ⊎ ((passed ≡ item.Close) × (blocks ≡ [])))
+    ⊎ (((passed ≡ item.Else) × (open_behind item.Else blocks ≡ None)) ⊎ ((passed ≡ item.End) × (blocks ≡ [])))
 
 goes : (passed : Item) (blocks : List Kind) → Goes passed blocks
 goes (item.Operator o) blocks = inl (blocks, refl)
 goes (item.Opens opener.Block result) blocks = inl (kind.Block ∷ blocks, refl)
 goes (item.Opens opener.Loop result) blocks = inl (kind.Loop ∷ blocks, refl)
 goes (item.Opens opener.If result) blocks = inl (kind.Then ∷ blocks, refl)
-goes item.Turn [] = inr (inl (refl, refl))
-goes item.Turn (kind.Block ∷ blocks) = inr (inl (refl, refl))
-goes item.Turn (kind.Loop ∷ blocks) = inr (inl (refl, refl))
-goes item.Turn (kind.Then ∷ blocks) = inl (kind.Else ∷ blocks, refl)
-goes item.Turn (kind.Else ∷ blocks) = inr (inl (refl, refl))
-goes item.Close [] = inr (inr (refl, refl))
-goes item.Close (inmost ∷ blocks) = inl (blocks, refl)
+goes item.Else [] = inr (inl (refl, refl))
+goes item.Else (kind.Block ∷ blocks) = inr (inl (refl, refl))
+goes item.Else (kind.Loop ∷ blocks) = inr (inl (refl, refl))
+goes item.Else (kind.Then ∷ blocks) = inl (kind.Else ∷ blocks, refl)
+goes item.Else (kind.Else ∷ blocks) = inr (inl (refl, refl))
+goes item.End [] = inr (inr (refl, refl))
+goes item.End (inmost ∷ blocks) = inl (blocks, refl)
 
 -- behind the `end` of the body
 left_over
     : (start here : Place) (items : List Item) (targets : List ℕ) (after : Input) (left : List ℕ) → AreCut items start here → here.blocks ≡ []
-    → ReadsAt here (item.Close, targets) after → after.left ≡ left → Leads start
+    → ReadsAt here (item.End, targets) after → after.left ≡ left → Leads start
 left_over start here items targets after [] cut none spelt e = inl (items, here, targets, after, cut, none, spelt, e)
 left_over start here items targets after (byte ∷ rest) cut none spelt e =
     inr (
       items,
       here,
-      fault_at 14 after.at,
+      fault_at refusal.RestAfterEnd after.at,
       cut,
       inr (inr record {
         targets = targets;
@@ -203,18 +205,18 @@ walk_goes start here items p after further cut reads (inr (inl turns)) =
     inr (
       items,
       here,
-      fault_at 9 here.ahead.at,
+      fault_at refusal.BadNesting here.ahead.at,
       cut,
       inr (inl record {
         targets = p.1;
         after = after;
-        spelt = as_turn here p after item.Turn turns.0 reads;
+        spelt = as_turn here p after item.Else turns.0 reads;
         no_if = turns.1;
         told = refl;
       }),
     )
 walk_goes start here items p after further cut reads (inr (inr closes)) =
-    left_over start here items p.1 after after.left cut closes.1 (as_turn here p after item.Close closes.0 reads) refl
+    left_over start here items p.1 after after.left cut closes.1 (as_turn here p after item.End closes.0 reads) refl
 
 walk_at
     : (start here : Place) (items : List Item) (read : Read Parsed)

@@ -14,12 +14,12 @@ use Rattle.wasm_code.proofs.ItemFacts.{item_plain}
 
 -- a sequence, its `end`, and what is behind it
 abbrev Ended : (List Item → Type 0) → List Item → Type 0
-Ended Behind items = (s : Sequence) × (rest : List Item) × IsNested s × (items ≡ items_of s ++ item.Close ∷ rest) × Behind rest
+Ended Behind items = (s : Sequence) × (rest : List Item) × IsNested s × (items ≡ items_of s ++ item.End ∷ rest) × Behind rest
 
 -- the same with an `else` between two sequences
 abbrev Turned : (List Item → Type 0) → List Item → Type 0
 Turned Behind items =
-    (s : Sequence) × (rest : List Item) × IsNested s × (items ≡ items_of s ++ item.Turn ∷ rest) × Ended Behind rest
+    (s : Sequence) × (rest : List Item) × IsNested s × (items ≡ items_of s ++ item.Else ∷ rest) × Ended Behind rest
 
 -- the items complete these open blocks, and the body
 abbrev Completes : List Kind → List Item → Type 0
@@ -43,11 +43,11 @@ in_front front f closing s rest items e =
 
 front_ended
     : (Behind : List Item → Type 0) (front : List Item) (items : List Item) → Front front → Ended Behind items → Ended Behind (front ++ items)
-front_ended Behind front items f e = (f.before e.0, e.1, f.nested e.0 e.2, in_front front f item.Close e.0 e.1 items e.3, e.4)
+front_ended Behind front items f e = (f.before e.0, e.1, f.nested e.0 e.2, in_front front f item.End e.0 e.1 items e.3, e.4)
 
 front_turned
     : (Behind : List Item → Type 0) (front : List Item) (items : List Item) → Front front → Turned Behind items → Turned Behind (front ++ items)
-front_turned Behind front items f e = (f.before e.0, e.1, f.nested e.0 e.2, in_front front f item.Turn e.0 e.1 items e.3, e.4)
+front_turned Behind front items f e = (f.before e.0, e.1, f.nested e.0 e.2, in_front front f item.Else e.0 e.1 items e.3, e.4)
 
 fronted : (blocks : List Kind) (front : List Item) (items : List Item) → Front front → Completes blocks items → Completes blocks (front ++ items)
 fronted [] front items f e = (f.before e.0, f.nested e.0 e.1, ap (λ (is : List Item). front ++ is) e.2 ∙ sym (f.items e.0))
@@ -64,7 +64,7 @@ plain_front o is = record { before = Plain o; nested = λ s nested. (is, nested)
 
 -- what opens a block, the sequence in it, and its `end`
 abbrev held : Item → Sequence → List Item
-held opens s = opens ∷ (items_of s ++ item.Close ∷ [])
+held opens s = opens ∷ (items_of s ++ item.End ∷ [])
 
 block_front : (result : Option ValType) (body : Sequence) → IsNested body → Front (held (item.Opens opener.Block result) body)
 block_front result body is =
@@ -80,32 +80,32 @@ if_front result inner is =
 
 if_else_front
     : (result : Option ValType) (inner other : Sequence) → IsNested inner → IsNested other
-    → Front (item.Opens opener.If result ∷ (items_of inner ++ item.Turn ∷ (items_of other ++ item.Close ∷ [])))
+    → Front (item.Opens opener.If result ∷ (items_of inner ++ item.Else ∷ (items_of other ++ item.End ∷ [])))
 if_else_front result inner other is also =
     record { before = InIfElse result inner other; nested = λ s nested. (is, also, nested); items = λ s. simp append_assoc }
 
 -- a whole block in front of what completes the blocks around it
 whole_block
-    : (opens : Item) (blocks : List Kind) (s : Sequence) (rest items : List Item) → items ≡ items_of s ++ item.Close ∷ rest
+    : (opens : Item) (blocks : List Kind) (s : Sequence) (rest items : List Item) → items ≡ items_of s ++ item.End ∷ rest
     → Front (held opens s) → Completes blocks rest → Completes blocks (opens ∷ items)
 whole_block opens blocks s rest items e f completes =
     let P : List Item → Type 0 = Completes blocks in
-    let same : held opens s ++ rest ≡ opens ∷ items = ap (λ (is : List Item). opens ∷ is) (append_assoc (items_of s) (item.Close ∷ []) rest ∙ sym e) in
+    let same : held opens s ++ rest ≡ opens ∷ items = ap (λ (is : List Item). opens ∷ is) (append_assoc (items_of s) (item.End ∷ []) rest ∙ sym e) in
     subst P same (fronted blocks (held opens s) rest f completes)
 
 whole_if_else
     : (result : Option ValType) (blocks : List Kind) (inner other : Sequence) (middle rest items : List Item) → IsNested inner → IsNested other
-    → items ≡ items_of inner ++ item.Turn ∷ middle → middle ≡ items_of other ++ item.Close ∷ rest
+    → items ≡ items_of inner ++ item.Else ∷ middle → middle ≡ items_of other ++ item.End ∷ rest
     → Completes blocks rest → Completes blocks (item.Opens opener.If result ∷ items)
 whole_if_else result blocks inner other middle rest items is also e f completes =
     let P : List Item → Type 0 = Completes blocks in
     let opens : Item = item.Opens opener.If result in
-    let second : List Item = items_of other ++ item.Close ∷ [] in
-    let ends : (items_of inner ++ item.Turn ∷ second) ++ rest ≡ items_of inner ++ item.Turn ∷ (items_of other ++ item.Close ∷ rest) = simp append_assoc in
-    let regrouped : items_of inner ++ item.Turn ∷ (items_of other ++ item.Close ∷ rest) ≡ items_of inner ++ item.Turn ∷ middle =
-    ap (λ (m : List Item). items_of inner ++ item.Turn ∷ m) (sym f) in
+    let second : List Item = items_of other ++ item.End ∷ [] in
+    let ends : (items_of inner ++ item.Else ∷ second) ++ rest ≡ items_of inner ++ item.Else ∷ (items_of other ++ item.End ∷ rest) = simp append_assoc in
+    let regrouped : items_of inner ++ item.Else ∷ (items_of other ++ item.End ∷ rest) ≡ items_of inner ++ item.Else ∷ middle =
+    ap (λ (m : List Item). items_of inner ++ item.Else ∷ m) (sym f) in
     let same = ap (λ (m : List Item). opens ∷ m) (ends ∙ regrouped ∙ sym e) in
-    subst P same (fronted blocks (opens ∷ (items_of inner ++ item.Turn ∷ second)) rest (if_else_front result inner other is also) completes)
+    subst P same (fronted blocks (opens ∷ (items_of inner ++ item.Else ∷ second)) rest (if_else_front result inner other is also) completes)
 
 -- One item more in front.
 
@@ -130,21 +130,21 @@ opened opener.If result blocks next items e completes =
       | inr c ↦ whole_if_else result blocks c.0 c.4.0 c.1 c.4.1 items c.2 c.4.2 c.3 c.4.3 c.4.4
     ]
 
-turned
-    : (blocks next : List Kind) (items : List Item) → open_behind item.Turn blocks ≡ Some next
-    → Completes next items → Completes blocks (item.Turn ∷ items)
-turned [] next items e completes = let bad : ⊥ = cc in absurd bad
-turned (kind.Block ∷ blocks) next items e completes = let bad : ⊥ = cc in absurd bad
-turned (kind.Loop ∷ blocks) next items e completes = let bad : ⊥ = cc in absurd bad
-turned (kind.Else ∷ blocks) next items e completes = let bad : ⊥ = cc in absurd bad
-turned (kind.Then ∷ blocks) next items e completes =
+divided
+    : (blocks next : List Kind) (items : List Item) → open_behind item.Else blocks ≡ Some next
+    → Completes next items → Completes blocks (item.Else ∷ items)
+divided [] next items e completes = let bad : ⊥ = cc in absurd bad
+divided (kind.Block ∷ blocks) next items e completes = let bad : ⊥ = cc in absurd bad
+divided (kind.Loop ∷ blocks) next items e completes = let bad : ⊥ = cc in absurd bad
+divided (kind.Else ∷ blocks) next items e completes = let bad : ⊥ = cc in absurd bad
+divided (kind.Then ∷ blocks) next items e completes =
     let same : next ≡ kind.Else ∷ blocks = cc in
     let P : List Kind → Type 0 = λ ks. Completes ks items in
     inr (Done, items, tt, refl, subst P same completes)
 
 shut
-    : (blocks next : List Kind) (items : List Item) → open_behind item.Close blocks ≡ Some next
-    → Completes next items → Completes blocks (item.Close ∷ items)
+    : (blocks next : List Kind) (items : List Item) → open_behind item.End blocks ≡ Some next
+    → Completes next items → Completes blocks (item.End ∷ items)
 shut [] next items e completes = let bad : ⊥ = cc in absurd bad
 shut (kind.Block ∷ blocks) next items e completes =
     let P : List Kind → Type 0 = λ ks. Completes ks items in
@@ -169,8 +169,8 @@ one_more (item.Operator o) here there items passes completes =
     let is = item_plain _ here.targets here.ahead o there.targets there.ahead passes.spelt in
     fronted here.blocks (item.Operator o ∷ []) items (plain_front o is) (subst P same completes)
 one_more (item.Opens w result) here there items passes completes = opened w result here.blocks there.blocks items passes.stands completes
-one_more item.Turn here there items passes completes = turned here.blocks there.blocks items passes.stands completes
-one_more item.Close here there items passes completes = shut here.blocks there.blocks items passes.stands completes
+one_more item.Else here there items passes completes = divided here.blocks there.blocks items passes.stands completes
+one_more item.End here there items passes completes = shut here.blocks there.blocks items passes.stands completes
 
 completed : (items : List Item) (here last : Place) → AreCut items here last → last.blocks ≡ [] → Completes here.blocks items
 completed [] here last cut none =

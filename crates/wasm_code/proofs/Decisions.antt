@@ -189,9 +189,9 @@ byte_at at (byte ∷ left) =
           let next = reads.next in
           let value : byte ≡ x = cc in
           let lefts : left ≡ after.left = cc in
-          let moved : ℕ → Input = λ n. record { at = n; left = left } in
+          let access_of : ℕ → Input = λ n. record { at = n; left = left } in
           let rest : List ℕ → Input = λ xs. record { at = after.at; left = xs } in
-          read_same byte x there after value (ap moved (sym reads.behind) ∙ ap rest lefts);
+          read_same byte x there after value (ap access_of (sym reads.behind) ∙ ap rest lefts);
       refused = λ fault e. let bad : ⊥ = cc in absurd bad;
       only_refused = λ fault lacks. let ended = lacks.ended in let bad : ⊥ = cc in absurd bad;
     }

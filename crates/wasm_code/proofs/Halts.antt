@@ -76,27 +76,27 @@ refused_halts here fault (inl refuses) =
 refused_halts here fault (inr (inl misplaced)) =
     record {
       nowhere = λ i there passes.
-          let same = (one_item here (i, there.targets) (item.Turn, misplaced.targets) there.ahead misplaced.after passes.spelt misplaced.spelt).0 in
+          let same = (one_item here (i, there.targets) (item.Else, misplaced.targets) there.ahead misplaced.after passes.spelt misplaced.spelt).0 in
           let opens = ap (λ (p : Parsed). open_behind p.0 here.blocks) same in
           let stands = passes.stands in let none = misplaced.no_if in cc;
     }
 refused_halts here fault (inr (inr remains)) =
     record {
       nowhere = λ i there passes.
-          let same = (one_item here (i, there.targets) (item.Close, remains.targets) there.ahead remains.after passes.spelt remains.spelt).0 in
+          let same = (one_item here (i, there.targets) (item.End, remains.targets) there.ahead remains.after passes.spelt remains.spelt).0 in
           let opens = ap (λ (p : Parsed). open_behind p.0 here.blocks) same in
-          let empty = ap (λ (ks : List Kind). open_behind item.Close ks) remains.no_block in
+          let empty = ap (λ (ks : List Kind). open_behind item.End ks) remains.no_block in
           let stands = passes.stands in cc;
     }
 
 -- the end of a body
-pub closed_halts : (here : Place) (targets : List ℕ) (after : Input) → here.blocks ≡ [] → ReadsAt here (item.Close, targets) after → Halts here
+pub closed_halts : (here : Place) (targets : List ℕ) (after : Input) → here.blocks ≡ [] → ReadsAt here (item.End, targets) after → Halts here
 closed_halts here targets after no_block spelt =
     record {
       nowhere = λ i there passes.
-          let same = (one_item here (i, there.targets) (item.Close, targets) there.ahead after passes.spelt spelt).0 in
+          let same = (one_item here (i, there.targets) (item.End, targets) there.ahead after passes.spelt spelt).0 in
           let opens = ap (λ (p : Parsed). open_behind p.0 here.blocks) same in
-          let empty = ap (λ (ks : List Kind). open_behind item.Close ks) no_block in
+          let empty = ap (λ (ks : List Kind). open_behind item.End ks) no_block in
           let stands = passes.stands in cc;
     }
 

@@ -1,5 +1,5 @@
 -- Each item takes a byte at least, and an operator of its own opens no block and closes none.
-use Rattle.std.proofs.Common.{◌≡◌, ℕ, ◌+◌, ◌<◌, ◌≤◌, Bool, true, false, ◌==◌, nat_lt, if◌then◌else◌, List, [], ◌∷◌, length, refl, ap, sym, subst, arith, rules, length-append}
+use Rattle.std.proofs.Common.{◌≡◌, ℕ, ◌+◌, ◌<◌, ◌≤◌, Bool, true, false, ◌==◌, nat_lt, if◌then◌else◌, List, [], ◌∷◌, Option, Some, None, length, refl, ap, sym, subst, arith, rules, length-append}
 use Rattle.wasm_ops.specs.declared.operators.Op.{Op}
 use Rattle.wasm_ops.specs.declared.operators.Op.TheVariants as op
 use Rattle.wasm_ops.specs.declared.types.ValType.{ValType}
@@ -7,21 +7,22 @@ use Rattle.wasm_ops.specs.declared.numbers.Sign.{Sign}
 use Rattle.wasm_ops.specs.declared.numbers.Sign.TheVariants.{Unsigned, Signed}
 use Rattle.wasm_ops.specs.Input.{Input}
 use Rattle.wasm_ops.specs.NumberInput.{ReadsNumber}
-use Rattle.wasm_ops.specs.IntOps.{is_int_op}
+use Rattle.wasm_ops.specs.declared.operations.Operation.{Operation}
+use Rattle.wasm_ops.specs.Operations.{operation_of, takes_one}
 use Rattle.wasm_ops.specs.Sequence.{IsPlain}
 use Rattle.wasm_ops.proofs.InputLaws.{spelt-shorter}
 use Rattle.wasm_code.specs.declared.items.Item.TheVariants as item
 use Rattle.wasm_code.specs.declared.forms.Form.{Form}
-use Rattle.wasm_code.specs.declared.forms.Form.TheVariants.{Operator, Labels, Opens, Turn, Close}
+use Rattle.wasm_code.specs.declared.forms.Form.TheVariants.{Operator, Labels, Opens, Else, End}
 use Rattle.wasm_code.specs.declared.forms.Layout.{Layout}
-use Rattle.wasm_code.specs.declared.forms.Layout.TheVariants.{Bare, Index, Load, Store, Reserved, Word, Long, IndirectCall, Float, Unknown}
+use Rattle.wasm_code.specs.declared.forms.Layout.TheVariants.{Bare, Index, Load, Store, Reserved, I32Const, I64Const, IndirectCall, Float, Unknown}
 use Rattle.wasm_code.specs.declared.forms.Indexed.{Indexed}
 use Rattle.wasm_code.specs.declared.forms.Indexed.TheVariants as indexed
-use Rattle.wasm_code.specs.Forms.{Rows, control_rows, variable_rows, load_rows, store_rows, look_up, row_of, takes_one, int_op, is_float_op, form_of, with_index}
+use Rattle.wasm_code.specs.Forms.{Rows, control_rows, variable_rows, load_rows, store_rows, look_up, row_of, is_float_op, form_with, form_of, with_index}
 use Rattle.wasm_code.specs.Reading.{ReadsByte}
 use Rattle.wasm_code.specs.Layouts.{ReadsZero, ReadsIndex, ReadsAddress, ReadsLayout}
 use Rattle.wasm_code.specs.Locals.{Group, ReadsGroups, ReadsLocals}
-use Rattle.wasm_code.specs.Items.{Parsed, table, ReadsLabels, ReadsForm, ReadsItem}
+use Rattle.wasm_code.specs.Items.{Parsed, branch_table, ReadsLabels, ReadsForm, ReadsItem}
 
 byte_shorter : (before : Input) (byte : ℕ) (after : Input) → ReadsByte before byte after → length after.left < length before.left
 byte_shorter before byte after reads = let lengths = ap (λ (xs : List ℕ). length xs) reads.next in omega arith
@@ -61,8 +62,8 @@ layout_shorter (Index kind) before operator after reads = index_shorter (with_in
 layout_shorter (Load access) before operator after reads = address_shorter (op.Load access) before operator after reads
 layout_shorter (Store access) before operator after reads = address_shorter (op.Store access) before operator after reads
 layout_shorter (Reserved o) before operator after reads = zero_shorter o before operator after reads
-layout_shorter Word before operator after reads = let shorter = number_shorter Signed 32 before reads.0 after reads.1 in omega arith
-layout_shorter Long before operator after reads = let shorter = number_shorter Signed 64 before reads.0 after reads.1 in omega arith
+layout_shorter I32Const before operator after reads = let shorter = number_shorter Signed 32 before reads.0 after reads.1 in omega arith
+layout_shorter I64Const before operator after reads = let shorter = number_shorter Signed 64 before reads.0 after reads.1 in omega arith
 layout_shorter IndirectCall before operator after reads =
     let shorter = number_shorter Unsigned 32 before reads.0 reads.1 reads.2 in
     let further = zero_shorter (op.CallIndirect reads.0) reads.1 operator after reads.3 in omega arith
@@ -89,8 +90,8 @@ form_shorter (Opens opener) depth targets before parsed after reads =
     let spelt = reads.1.1 in
     let shorter = byte_shorter before spelt.0 spelt.1 spelt.2 in
     let same = same_left after spelt.1 spelt.3.1 in omega arith
-form_shorter Turn depth targets before parsed after reads = let same = same_left after before reads.1 in omega arith
-form_shorter Close depth targets before parsed after reads = let same = same_left after before reads.1 in omega arith
+form_shorter Else depth targets before parsed after reads = let same = same_left after before reads.1 in omega arith
+form_shorter End depth targets before parsed after reads = let same = same_left after before reads.1 in omega arith
 
 pub item_shorter
     : (depth : ℕ) (targets : List ℕ) (before : Input) (parsed : Parsed) (after : Input) → ReadsItem depth targets before parsed after
@@ -148,13 +149,14 @@ row_plain byte =
     (chosen (nat_lt byte 0x1A) control variable (looked_up control_rows byte control_plain) (looked_up variable_rows byte variable_plain))
     (chosen (nat_lt byte 0x36) load store (looked_up load_rows byte load_plain) (looked_up store_rows byte store_plain))
 
-form_plain : (byte : ℕ) → FormIsPlain (form_of byte)
-form_plain byte =
+form_with_plain : (byte : ℕ) (operation : Option Operation) → FormIsPlain (form_with byte operation)
+form_with_plain byte (Some operation) = int_op_plain byte (takes_one operation)
+form_with_plain byte None =
     let float : Form = Operator Float in
-    let whole : Form = Operator (Bare (int_op byte)) in
-    let floats : FormIsPlain (if is_float_op byte then float else row_of byte) =
-    chosen (is_float_op byte) float (row_of byte) (let none : Unit {0} = tt in none) (row_plain byte) in
-    chosen (is_int_op byte) whole (if is_float_op byte then float else row_of byte) (int_op_plain byte (takes_one byte)) floats
+    chosen (is_float_op byte) float (row_of byte) (let none : Unit {0} = tt in none) (row_plain byte)
+
+form_plain : (byte : ℕ) → FormIsPlain (form_of byte)
+form_plain byte = form_with_plain byte (operation_of byte)
 
 with_index_plain : (kind : Indexed) (n : ℕ) → IsPlain (with_index kind n)
 with_index_plain indexed.Br n = refl
@@ -176,8 +178,8 @@ layout_plain (Index kind) before operator after is reads = same_plain operator (
 layout_plain (Load access) before operator after is reads = same_plain operator (op.Load access reads.0 reads.3.0) reads.3.2 refl
 layout_plain (Store access) before operator after is reads = same_plain operator (op.Store access reads.0 reads.3.0) reads.3.2 refl
 layout_plain (Reserved o) before operator after is reads = same_plain operator o reads.3.1 is
-layout_plain Word before operator after is reads = same_plain operator (op.ConstI32 reads.0) reads.2 refl
-layout_plain Long before operator after is reads = same_plain operator (op.ConstI64 reads.0) reads.2 refl
+layout_plain I32Const before operator after is reads = same_plain operator (op.ConstI32 reads.0) reads.2 refl
+layout_plain I64Const before operator after is reads = same_plain operator (op.ConstI64 reads.0) reads.2 refl
 layout_plain IndirectCall before operator after is reads = same_plain operator (op.CallIndirect reads.0) reads.3.3.1 refl
 layout_plain Float before operator after is reads = absurd reads
 layout_plain Unknown before operator after is reads = absurd reads
@@ -195,9 +197,9 @@ form_operator Labels depth targets before parsed after o is reads e =
     same_plain o (op.BrTable (length targets) reads.0) same refl
 form_operator (Opens opener) depth targets before parsed after o is reads e =
     let first = ap (λ (r : Parsed). r.0) reads.1.2 in let bad : ⊥ = cc in absurd bad
-form_operator Turn depth targets before parsed after o is reads e =
+form_operator Else depth targets before parsed after o is reads e =
     let first = ap (λ (r : Parsed). r.0) reads.0 in let bad : ⊥ = cc in absurd bad
-form_operator Close depth targets before parsed after o is reads e =
+form_operator End depth targets before parsed after o is reads e =
     let first = ap (λ (r : Parsed). r.0) reads.0 in let bad : ⊥ = cc in absurd bad
 
 pub item_plain
@@ -222,16 +224,16 @@ form_few Labels depth targets before parsed after reads =
     let adds = reads.3.1.1 in
     let further = labels_shorter adds.0 reads.1 after adds.2 in
     let all = ap (λ (xs : List ℕ). length xs) adds.3 in
-    let same = same_targets parsed (table targets reads.0 reads.3.1.0) reads.3.1.2 in omega (arith, length-append targets adds.0)
+    let same = same_targets parsed (branch_table targets reads.0 reads.3.1.0) reads.3.1.2 in omega (arith, length-append targets adds.0)
 form_few (Opens opener) depth targets before parsed after reads =
     let shorter = form_shorter (Opens opener) depth targets before parsed after reads in
     let same = same_targets parsed (item.Opens opener reads.1.0, targets) reads.1.2 in omega arith
-form_few Turn depth targets before parsed after reads =
-    let shorter = form_shorter Turn depth targets before parsed after reads in
-    let same = same_targets parsed (item.Turn, targets) reads.0 in omega arith
-form_few Close depth targets before parsed after reads =
-    let shorter = form_shorter Close depth targets before parsed after reads in
-    let same = same_targets parsed (item.Close, targets) reads.0 in omega arith
+form_few Else depth targets before parsed after reads =
+    let shorter = form_shorter Else depth targets before parsed after reads in
+    let same = same_targets parsed (item.Else, targets) reads.0 in omega arith
+form_few End depth targets before parsed after reads =
+    let shorter = form_shorter End depth targets before parsed after reads in
+    let same = same_targets parsed (item.End, targets) reads.0 in omega arith
 
 pub item_few
     : (depth : ℕ) (targets : List ℕ) (before : Input) (parsed : Parsed) (after : Input) → ReadsItem depth targets before parsed after

@@ -9,17 +9,20 @@ use Rattle.wasm_ops.specs.declared.types.ValType.{ValType}
 use Rattle.wasm_ops.specs.declared.numbers.Sign.TheVariants.{Unsigned, Signed}
 use Rattle.wasm_ops.specs.Input.{Input, byte_from}
 use Rattle.wasm_ops.specs.NumberInput.{ReadsNumber, RefusesNumber, number_from}
+use Rattle.wasm_ops.specs.declared.faults.Refusal.TheVariants as refusal
+use Rattle.wasm_ops.specs.Limits.{most_targets, most_blocks, most_locals}
+use Rattle.wasm_ops.specs.Refusals.{fault_at}
 use Rattle.wasm_code.specs.declared.items.Item.TheVariants as item
 use Rattle.wasm_code.specs.declared.forms.Form.{Form}
-use Rattle.wasm_code.specs.declared.forms.Form.TheVariants.{Operator, Labels, Opens, Turn, Close}
+use Rattle.wasm_code.specs.declared.forms.Form.TheVariants.{Operator, Labels, Opens, Else, End}
 use Rattle.wasm_code.specs.declared.forms.Layout.{Layout}
-use Rattle.wasm_code.specs.declared.forms.Layout.TheVariants.{Bare, Index, Load, Store, Reserved, Word, Long, IndirectCall, Float, Unknown}
+use Rattle.wasm_code.specs.declared.forms.Layout.TheVariants.{Bare, Index, Load, Store, Reserved, I32Const, I64Const, IndirectCall, Float, Unknown}
 use Rattle.wasm_code.specs.Forms.{form_of, with_index}
-use Rattle.wasm_code.specs.Reading.{as_part, within, fault_at, ReadsByte, LacksByte}
-use Rattle.wasm_code.specs.Types.{type_of, result_of, no_type, typed, as_from, ReadsAs, RefusesAs, ReadsType, RefusesType, type_from, ReadsBlockType, RefusesBlockType, block_type_from}
+use Rattle.wasm_code.specs.Reading.{as_part, within, ReadsByte, LacksByte}
+use Rattle.wasm_code.specs.Types.{type_of, block_type_of, no_type, typed, as_from, ReadsAs, RefusesAs, ReadsType, RefusesType, type_from, ReadsBlockType, RefusesBlockType, block_type_from}
 use Rattle.wasm_code.specs.Layouts.{ReadsZero, RefusesZero, ReadsIndex, ReadsAddress, RefusesAddress, ReadsLayout, RefusesLayout, zeroed, zero_from, index_from, address_from, layout_from}
-use Rattle.wasm_code.specs.Items.{most_targets, most_blocks, Parsed, ReadsLabels, AddsLabels, RefusesLabels, table, ReadsForm, RefusesForm, ReadsItem, RefusesItem, labels_from, table_from, form_from, item_from}
-use Rattle.wasm_code.specs.Locals.{most_locals, Group, RefusesGroup, ReadsGroups, written_out, AddsGroups, RefusesGroups, ReadsLocals, RefusesLocals, with_group, group_from, groups_from, locals_from}
+use Rattle.wasm_code.specs.Items.{Parsed, ReadsLabels, AddsLabels, RefusesLabels, branch_table, ReadsForm, RefusesForm, ReadsItem, RefusesItem, labels_from, table_from, form_from, item_from}
+use Rattle.wasm_code.specs.Locals.{Group, RefusesGroup, ReadsGroups, written_out, AddsGroups, RefusesGroups, ReadsLocals, RefusesLocals, with_group, group_from, groups_from, locals_from}
 use Rattle.wasm_code.proofs.Decisions.{Decides, read_parts, read_same, fault_same, and_then_decides, told_decides, as_part_decides, within_decides, stands_decides, fails_decides, byte_decides, number_decides}
 
 -- Types.
@@ -54,7 +57,7 @@ as_decides {A} of before =
 
 zeroed_at
     : (o : Op) (at byte : ℕ) (there : Input) → (byte ≡ 0) ⊎ (byte ≢ 0)
-    → Decides Op (zeroed o at byte there) (λ operator after. (byte ≡ 0) × (operator ≡ o) × (after ≡ there)) (λ fault. (byte ≢ 0) × (fault ≡ fault_at 13 at))
+    → Decides Op (zeroed o at byte there) (λ operator after. (byte ≡ 0) × (operator ≡ o) × (after ≡ there)) (λ fault. (byte ≢ 0) × (fault ≡ fault_at refusal.Reserved at))
 zeroed_at o at byte there (inl is) =
     let goes : zeroed o at byte there ≡ Ok (o, there) = rw (eq-eqb byte 0 is) refl in
     record {
@@ -64,12 +67,12 @@ zeroed_at o at byte there (inl is) =
       only_refused = λ fault refuses. absurd (refuses.0 is);
     }
 zeroed_at o at byte there (inr other) =
-    let fails : zeroed o at byte there ≡ Err (fault_at 13 at) = rw (ne_eqb byte 0 other) refl in
+    let fails : zeroed o at byte there ≡ Err (fault_at refusal.Reserved at) = rw (ne_eqb byte 0 other) refl in
     record {
       found = λ x after e. let bad : ⊥ = cc in absurd bad;
       only = λ x after reads. absurd (other reads.0);
       refused = λ fault e. (other, cc);
-      only_refused = λ fault refuses. fails ∙ fault_same (fault_at 13 at) fault (sym refuses.1);
+      only_refused = λ fault refuses. fails ∙ fault_same (fault_at refusal.Reserved at) fault (sym refuses.1);
     }
 
 zero_decides : (o : Op) (before : Input) → Decides Op (zero_from o before) (ReadsZero o before) (RefusesZero before)
@@ -77,7 +80,7 @@ zero_decides o before =
     and_then_decides (byte_from before) (λ byte after. zeroed o before.at byte after)
     (ReadsByte before) (LacksByte before)
     (λ byte there operator after. (byte ≡ 0) × (operator ≡ o) × (after ≡ there))
-    (λ byte there fault. (byte ≢ 0) × (fault ≡ fault_at 13 before.at))
+    (λ byte there fault. (byte ≢ 0) × (fault ≡ fault_at refusal.Reserved before.at))
     (byte_decides before) (λ byte there reads. zeroed_at o before.at byte there (cases_eq byte 0))
 
 u32_decides : (before : Input) → Decides ℕ (number_from Unsigned 32 before) (ReadsNumber Unsigned 32 before) (RefusesNumber Unsigned 32 before)
@@ -104,10 +107,10 @@ layout_decides (Index kind) at before = index_decides (with_index kind) before
 layout_decides (Load access) at before = address_decides (op.Load access) before
 layout_decides (Store access) at before = address_decides (op.Store access) before
 layout_decides (Reserved o) at before = zero_decides o before
-layout_decides Word at before =
+layout_decides I32Const at before =
     as_part_decides op.ConstI32 (number_from Signed 32 before) (ReadsNumber Signed 32 before) (RefusesNumber Signed 32 before)
     (number_decides Signed 32 before (omega arith))
-layout_decides Long at before =
+layout_decides I64Const at before =
     as_part_decides op.ConstI64 (number_from Signed 64 before) (ReadsNumber Signed 64 before) (RefusesNumber Signed 64 before)
     (number_decides Signed 64 before (omega arith))
 layout_decides IndirectCall at before =
@@ -116,8 +119,8 @@ layout_decides IndirectCall at before =
     (λ index there operator after. ReadsZero (op.CallIndirect index) there operator after)
     (λ index there fault. RefusesZero there fault)
     (u32_decides before) (λ index there reads. zero_decides (op.CallIndirect index) there)
-layout_decides Float at before = fails_decides (fault_at 5 at)
-layout_decides Unknown at before = fails_decides (fault_at 6 at)
+layout_decides Float at before = fails_decides (fault_at refusal.FloatOperator at)
+layout_decides Unknown at before = fails_decides (fault_at refusal.UnknownOperator at)
 
 -- Items.
 
@@ -196,15 +199,15 @@ table_decides
     → Decides Parsed (table_from targets before) (ReadsForm Labels depth targets before) (RefusesForm Labels depth targets at before)
 table_decides depth targets at before =
     and_then_decides (number_from Unsigned 32 before)
-    (λ count there. within most_targets count (fault_at 12 before.at) (as_part (table targets count) (labels_from (suc count) targets there)))
+    (λ count there. within most_targets count (fault_at refusal.TooManyTargets before.at) (as_part (branch_table targets count) (labels_from (suc count) targets there)))
     (ReadsNumber Unsigned 32 before) (RefusesNumber Unsigned 32 before)
-    (λ count there parsed after. (count ≤ most_targets) × ((all : List ℕ) × AddsLabels (suc count) targets there all after × (parsed ≡ table targets count all)))
-    (λ count there fault. ((most_targets < count) × (fault ≡ fault_at 12 before.at)) ⊎ ((count ≤ most_targets) × RefusesLabels (suc count) there fault))
+    (λ count there parsed after. (count ≤ most_targets) × ((all : List ℕ) × AddsLabels (suc count) targets there all after × (parsed ≡ branch_table targets count all)))
+    (λ count there fault. ((most_targets < count) × (fault ≡ fault_at refusal.TooManyTargets before.at)) ⊎ ((count ≤ most_targets) × RefusesLabels (suc count) there fault))
     (u32_decides before)
-    (λ count there reads. within_decides most_targets count (fault_at 12 before.at) (as_part (table targets count) (labels_from (suc count) targets there))
-    (λ parsed after. (all : List ℕ) × AddsLabels (suc count) targets there all after × (parsed ≡ table targets count all))
+    (λ count there reads. within_decides most_targets count (fault_at refusal.TooManyTargets before.at) (as_part (branch_table targets count) (labels_from (suc count) targets there))
+    (λ parsed after. (all : List ℕ) × AddsLabels (suc count) targets there all after × (parsed ≡ branch_table targets count all))
     (RefusesLabels (suc count) there)
-    (as_part_decides (table targets count) (labels_from (suc count) targets there) (AddsLabels (suc count) targets there) (RefusesLabels (suc count) there)
+    (as_part_decides (branch_table targets count) (labels_from (suc count) targets there) (AddsLabels (suc count) targets there) (RefusesLabels (suc count) there)
     (labels_decides (suc count) targets there)))
 
 form_decides
@@ -215,14 +218,14 @@ form_decides (Operator layout) depth targets at before =
     (layout_decides layout at before)
 form_decides Labels depth targets at before = table_decides depth targets at before
 form_decides (Opens opener) depth targets at before =
-    within_decides most_blocks (depth + 1) (fault_at 10 at)
+    within_decides most_blocks (depth + 1) (fault_at refusal.TooDeep at)
     (as_part (λ result. (item.Opens opener result, targets)) (block_type_from before))
     (λ parsed after. (result : Option ValType) × ReadsBlockType before result after × (parsed ≡ (item.Opens opener result, targets)))
     (RefusesBlockType before)
     (as_part_decides (λ (result : Option ValType). (item.Opens opener result, targets)) (block_type_from before) (ReadsBlockType before) (RefusesBlockType before)
-    (as_decides result_of before))
-form_decides Turn depth targets at before = stands_decides (item.Turn, targets) before
-form_decides Close depth targets at before = stands_decides (item.Close, targets) before
+    (as_decides block_type_of before))
+form_decides Else depth targets at before = stands_decides (item.Else, targets) before
+form_decides End depth targets at before = stands_decides (item.End, targets) before
 
 pub item_decides
     : (depth : ℕ) (targets : List ℕ) (before : Input)
@@ -247,12 +250,12 @@ group_decides
     → Decides (List ValType) (group_from locals before) (ReadsGroup locals before) (RefusesGroup locals before)
 group_decides locals before =
     and_then_decides (number_from Unsigned 32 before)
-    (λ count there. within most_locals (length locals + count) (fault_at 11 before.at) (as_part (with_group locals count) (type_from there)))
+    (λ count there. within most_locals (length locals + count) (fault_at refusal.TooManyLocals before.at) (as_part (with_group locals count) (type_from there)))
     (ReadsNumber Unsigned 32 before) (RefusesNumber Unsigned 32 before)
     (λ count there more after. (length locals + count ≤ most_locals) × ((value : ValType) × ReadsType there value after × (more ≡ locals ++ replicate count value)))
-    (λ count there fault. ((most_locals < length locals + count) × (fault ≡ fault_at 11 before.at)) ⊎ ((length locals + count ≤ most_locals) × RefusesType there fault))
+    (λ count there fault. ((most_locals < length locals + count) × (fault ≡ fault_at refusal.TooManyLocals before.at)) ⊎ ((length locals + count ≤ most_locals) × RefusesType there fault))
     (u32_decides before)
-    (λ count there reads. within_decides most_locals (length locals + count) (fault_at 11 before.at) (as_part (with_group locals count) (type_from there))
+    (λ count there reads. within_decides most_locals (length locals + count) (fault_at refusal.TooManyLocals before.at) (as_part (with_group locals count) (type_from there))
     (λ more after. (value : ValType) × ReadsType there value after × (more ≡ locals ++ replicate count value))
     (RefusesType there)
     (as_part_decides (with_group locals count) (type_from there) (ReadsType there) (RefusesType there) (as_decides type_of there)))

@@ -11,10 +11,10 @@ use Rattle.wasm_code.specs.declared.items.Item.{Item}
 use Rattle.wasm_code.specs.declared.items.Item.TheVariants as item
 use Rattle.wasm_code.specs.declared.items.Opener.{Opener}
 use Rattle.wasm_code.specs.declared.items.Opener.TheVariants as opener
-use Rattle.wasm_code.specs.declared.blocks.Part.TheVariants as part
+use Rattle.wasm_code.specs.declared.blocks.Stage.TheVariants as stage
 use Rattle.wasm_code.specs.declared.blocks.OpenBlock.{OpenBlock}
 use Rattle.wasm_code.specs.Bodies.{items_of}
-use Rattle.wasm_code.specs.Laying.{Laid, opening, first_part, filled, with_item, with_items}
+use Rattle.wasm_code.specs.Laying.{Laid, opening, first_stage, filled, with_item, with_items}
 
 pub with_items-append : (is js : List Item) (laid : Laid) → with_items (is ++ js) laid ≡ with_items js (with_items is laid)
 with_items-append [] js laid = refl
@@ -43,7 +43,7 @@ closing opener.Loop result end = op.Loop result end
 closing opener.If result end = op.If result None end
 
 filled_closing
-    : (w : Opener) (result : Option ValType) (at end : ℕ) (ops : List Op) → filled (first_part w) result at end ops ≡ slice_set ops at (closing w result end)
+    : (w : Opener) (result : Option ValType) (at end : ℕ) (ops : List Op) → filled (first_stage w) result at end ops ≡ slice_set ops at (closing w result end)
 filled_closing opener.Block result at end ops = refl
 filled_closing opener.Loop result at end ops = refl
 filled_closing opener.If result at end ops = refl
@@ -58,18 +58,18 @@ one_longer front o = omega (arith, length-append front (o ∷ []))
 
 held_laid
     : (w : Opener) (result : Option ValType) (body rest : Sequence) → IsLaid body → IsLaid rest → (ops : List Op) (blocks : List OpenBlock)
-    → with_items (item.Opens w result ∷ (items_of body ++ item.Close ∷ items_of rest)) (laid_as ops blocks)
+    → with_items (item.Opens w result ∷ (items_of body ++ item.End ∷ items_of rest)) (laid_as ops blocks)
     ≡ laid_as (ops ++ (closing w result (length ops + 1 + size body) ∷ (flat (length ops + 1) body ++ op.End ∷ flat (length ops + 2 + size body) rest))) blocks
 held_laid w result body rest is also ops blocks =
     let n = length ops in
-    let block : OpenBlock = record { part = first_part w; result = result; at = n } in
+    let block : OpenBlock = record { stage = first_stage w; result = result; at = n } in
     let inner = flat (n + 1) body in
     let end = n + 1 + size body in
     let opened : List Op = ops ++ opening w result ∷ [] in
     let full : List Op = opened ++ inner in
-    let first = laid_then body (n + 1) opened (block ∷ blocks) (item.Close ∷ items_of rest) is (one_longer ops (opening w result)) in
+    let first = laid_then body (n + 1) opened (block ∷ blocks) (item.End ∷ items_of rest) is (one_longer ops (opening w result)) in
     let long : length full ≡ end = omega (arith, length-append opened inner, one_longer ops (opening w result), length-flat body (n + 1)) in
-    let known : filled (first_part w) result n (length full) full ≡ ops ++ closing w result end ∷ inner =
+    let known : filled (first_stage w) result n (length full) full ≡ ops ++ closing w result end ∷ inner =
     filled_closing w result n (length full) full
     ∙ ap (λ (k : ℕ). slice_set full n (closing w result k)) long
     ∙ put ops inner (opening w result) (closing w result end) in
@@ -88,34 +88,34 @@ choice_laid
 choice_laid result inner other rest is turns also ops blocks =
     let n = length ops in
     let opens : Op = op.If result None 0 in
-    let first_block : OpenBlock = record { part = part.Then; result = result; at = n } in
+    let first_block : OpenBlock = record { stage = stage.Then; result = result; at = n } in
     let one = flat (n + 1) inner in
-    let turn = n + 1 + size inner in
+    let divide = n + 1 + size inner in
     let two = flat (n + 2 + size inner) other in
     let end = n + 2 + size inner + size other in
-    let whole : Op = op.If result (Some turn) end in
-    let block : OpenBlock = record { part = part.Else turn; result = result; at = n } in
+    let whole : Op = op.If result (Some divide) end in
+    let block : OpenBlock = record { stage = stage.Else divide; result = result; at = n } in
     let opened : List Op = ops ++ opens ∷ [] in
     let half : List Op = opened ++ one in
-    let turned_ops : List Op = half ++ op.Else 0 ∷ [] in
-    let full : List Op = turned_ops ++ two in
-    let more : List Item = items_of other ++ item.Close ∷ items_of rest in
-    let first = laid_then inner (n + 1) opened (first_block ∷ blocks) (item.Turn ∷ more) is (one_longer ops opens) in
-    let half_long : length half ≡ turn = omega (arith, length-append opened one, one_longer ops opens, length-flat inner (n + 1)) in
-    let middle = ap (λ (k : ℕ). with_items more (laid_as turned_ops (record { part = part.Else k; result = result; at = n } ∷ blocks))) half_long in
-    let turned_long : length turned_ops ≡ n + 2 + size inner = omega (arith, one_longer half (op.Else 0)) in
-    let second = laid_then other (n + 2 + size inner) turned_ops (block ∷ blocks) (item.Close ∷ items_of rest) turns turned_long in
-    let full_long : length full ≡ end = omega (arith, length-append turned_ops two, length-flat other (n + 2 + size inner)) in
+    let divided_ops : List Op = half ++ op.Else 0 ∷ [] in
+    let full : List Op = divided_ops ++ two in
+    let more : List Item = items_of other ++ item.End ∷ items_of rest in
+    let first = laid_then inner (n + 1) opened (first_block ∷ blocks) (item.Else ∷ more) is (one_longer ops opens) in
+    let half_long : length half ≡ divide = omega (arith, length-append opened one, one_longer ops opens, length-flat inner (n + 1)) in
+    let middle = ap (λ (k : ℕ). with_items more (laid_as divided_ops (record { stage = stage.Else k; result = result; at = n } ∷ blocks))) half_long in
+    let turned_long : length divided_ops ≡ n + 2 + size inner = omega (arith, one_longer half (op.Else 0)) in
+    let second = laid_then other (n + 2 + size inner) divided_ops (block ∷ blocks) (item.End ∷ items_of rest) turns turned_long in
+    let full_long : length full ≡ end = omega (arith, length-append divided_ops two, length-flat other (n + 2 + size inner)) in
     let grouped : full ≡ (ops ++ opens ∷ []) ++ (one ++ op.Else 0 ∷ two) = simp append_assoc in
     let knows : slice_set full n whole ≡ ops ++ whole ∷ (one ++ op.Else 0 ∷ two) =
     ap (λ (all : List Op). slice_set all n whole) grouped ∙ put ops (one ++ op.Else 0 ∷ two) opens whole in
     let front : List Op = ops ++ whole ∷ one in
-    let front_long : length front ≡ turn = omega (arith, length-append ops (whole ∷ one), length-flat inner (n + 1)) in
+    let front_long : length front ≡ divide = omega (arith, length-append ops (whole ∷ one), length-flat inner (n + 1)) in
     let apart : ops ++ whole ∷ (one ++ op.Else 0 ∷ two) ≡ front ++ op.Else 0 ∷ two = simp append_assoc in
-    let tells : slice_set (slice_set full n whole) turn (op.Else end) ≡ front ++ op.Else end ∷ two =
-    ap (λ (all : List Op). slice_set all turn (op.Else end)) (knows ∙ apart) ∙ set_at front (op.Else 0) two (op.Else end) turn front_long in
-    let known : filled (part.Else turn) result n (length full) full ≡ front ++ op.Else end ∷ two =
-    ap (λ (k : ℕ). slice_set (slice_set full n (op.If result (Some turn) k)) turn (op.Else k)) full_long ∙ tells in
+    let tells : slice_set (slice_set full n whole) divide (op.Else end) ≡ front ++ op.Else end ∷ two =
+    ap (λ (all : List Op). slice_set all divide (op.Else end)) (knows ∙ apart) ∙ set_at front (op.Else 0) two (op.Else end) divide front_long in
+    let known : filled (stage.Else divide) result n (length full) full ≡ front ++ op.Else end ∷ two =
+    ap (λ (k : ℕ). slice_set (slice_set full n (op.If result (Some divide) k)) divide (op.Else k)) full_long ∙ tells in
     let shut : List Op = (front ++ op.Else end ∷ two) ++ op.End ∷ [] in
     let longer : length shut ≡ n + 3 + size inner + size other =
     omega (arith, length-append (front ++ op.Else end ∷ two) (op.End ∷ []), length-append front (op.Else end ∷ two), length-flat other (n + 2 + size inner)) in

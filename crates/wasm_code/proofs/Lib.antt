@@ -12,3 +12,4 @@ pub mod ItemSteps
 pub mod OperatorSteps
 pub mod RefusalPlaces
 pub mod BodyAnswers
+mod FormSteps

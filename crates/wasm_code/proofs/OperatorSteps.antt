@@ -4,6 +4,8 @@ use Rattle.wasm_ops.specs.declared.faults.Fault.{Fault}
 use Rattle.wasm_ops.specs.declared.operators.Op.{Op}
 use Rattle.wasm_ops.specs.declared.operators.Op.TheVariants as op
 use Rattle.wasm_ops.specs.Input.{Input}
+use Rattle.wasm_ops.specs.declared.faults.Refusal.TheVariants as refusal
+use Rattle.wasm_ops.specs.Refusals.{fault_at}
 use Rattle.wasm_code.specs.declared.faults.CodeFault.{CodeFault}
 use Rattle.wasm_code.specs.declared.faults.CodeFault.TheVariants.{Bytes, NoMemory}
 use Rattle.wasm_code.specs.declared.items.Item.{Item}
@@ -12,14 +14,13 @@ use Rattle.wasm_code.specs.declared.items.Opener.TheVariants as opener
 use Rattle.wasm_code.specs.declared.items.Kind.{Kind}
 use Rattle.wasm_code.specs.declared.items.Kind.TheVariants as kind
 use Rattle.wasm_code.specs.declared.blocks.OpenBlock.{OpenBlock}
-use Rattle.wasm_code.specs.declared.blocks.Part.{Part}
-use Rattle.wasm_code.specs.declared.blocks.Part.TheVariants as part
+use Rattle.wasm_code.specs.declared.blocks.Stage.{Stage}
+use Rattle.wasm_code.specs.declared.blocks.Stage.TheVariants as stage
 use Rattle.wasm_code.specs.declared.blocks.Standing.TheVariants.{Inside, Misplaced, Last}
-use Rattle.wasm_code.specs.Reading.{fault_at}
 use Rattle.wasm_code.specs.Items.{Parsed, ReadsItem, RefusesItem, item_from}
 use Rattle.wasm_code.specs.Faults.{IsFaultOf, IsAmong}
 use Rattle.wasm_code.specs.Bodies.{open_behind, Place, AreCut, first_place, RefusesNext}
-use Rattle.wasm_code.specs.Laying.{Laid, opening, filled, closed, kind_of, kinds_of, standing_of, with_item, with_items, nothing}
+use Rattle.wasm_code.specs.Laying.{Laid, opening, filled, closed, kind_of_stage, kinds_of, standing_of, with_item, with_items, nothing}
 use Rattle.wasm_code.specs.Operators.{SpellsOperators, RefusesOperators}
 use Rattle.wasm_code.proofs.Halts.{cut_more}
 use Rattle.wasm_code.proofs.ItemLaws.{item_decides}
@@ -57,22 +58,22 @@ reads_next laid targets ahead p after e =
 -- An item with more behind it.
 
 turn_stands
-    : (block : Part) (others : List Kind) → standing_of item.Turn (kind_of block ∷ others) ≡ Inside
-    → open_behind item.Turn (kind_of block ∷ others) ≡ Some (kind.Else ∷ others)
-turn_stands part.Block others is = let bad : ⊥ = cc in absurd bad
-turn_stands part.Loop others is = let bad : ⊥ = cc in absurd bad
-turn_stands part.Then others is = refl
-turn_stands (part.Else turn) others is = let bad : ⊥ = cc in absurd bad
+    : (block : Stage) (others : List Kind) → standing_of item.Else (kind_of_stage block ∷ others) ≡ Inside
+    → open_behind item.Else (kind_of_stage block ∷ others) ≡ Some (kind.Else ∷ others)
+turn_stands stage.Block others is = let bad : ⊥ = cc in absurd bad
+turn_stands stage.Loop others is = let bad : ⊥ = cc in absurd bad
+turn_stands stage.Then others is = refl
+turn_stands (stage.Else divide) others is = let bad : ⊥ = cc in absurd bad
 
 turns_inside
-    : (ops : List Op) (blocks : List OpenBlock) → standing_of item.Turn (kinds_of blocks) ≡ Inside
-    → open_behind item.Turn (kinds_of blocks) ≡ Some (kinds_of (with_item item.Turn (record { ops = ops; blocks = blocks })).blocks)
+    : (ops : List Op) (blocks : List OpenBlock) → standing_of item.Else (kinds_of blocks) ≡ Inside
+    → open_behind item.Else (kinds_of blocks) ≡ Some (kinds_of (with_item item.Else (record { ops = ops; blocks = blocks })).blocks)
 turns_inside ops [] is = let bad : ⊥ = cc in absurd bad
-turns_inside ops (block ∷ blocks) is = turn_stands block.part (kinds_of blocks) is
+turns_inside ops (block ∷ blocks) is = turn_stands block.stage (kinds_of blocks) is
 
 closes_inside
-    : (ops : List Op) (blocks : List OpenBlock) → standing_of item.Close (kinds_of blocks) ≡ Inside
-    → open_behind item.Close (kinds_of blocks) ≡ Some (kinds_of (with_item item.Close (record { ops = ops; blocks = blocks })).blocks)
+    : (ops : List Op) (blocks : List OpenBlock) → standing_of item.End (kinds_of blocks) ≡ Inside
+    → open_behind item.End (kinds_of blocks) ≡ Some (kinds_of (with_item item.End (record { ops = ops; blocks = blocks })).blocks)
 closes_inside ops [] is = let bad : ⊥ = cc in absurd bad
 closes_inside ops (block ∷ blocks) is = refl
 
@@ -83,23 +84,23 @@ stands_inside (item.Operator o) laid is = refl
 stands_inside (item.Opens opener.Block result) laid is = refl
 stands_inside (item.Opens opener.Loop result) laid is = refl
 stands_inside (item.Opens opener.If result) laid is = refl
-stands_inside item.Turn laid is = turns_inside laid.ops laid.blocks is
-stands_inside item.Close laid is = closes_inside laid.ops laid.blocks is
+stands_inside item.Else laid is = turns_inside laid.ops laid.blocks is
+stands_inside item.End laid is = closes_inside laid.ops laid.blocks is
 
-turn_longer : (ops : List Op) (blocks : List OpenBlock) → length (with_item item.Turn (record { ops = ops; blocks = blocks })).ops ≤ length ops + 1
+turn_longer : (ops : List Op) (blocks : List OpenBlock) → length (with_item item.Else (record { ops = ops; blocks = blocks })).ops ≤ length ops + 1
 turn_longer ops [] = omega arith
 turn_longer ops (block ∷ blocks) = omega (arith, length-append ops (op.Else 0 ∷ []))
 
-close_longer : (ops : List Op) (blocks : List OpenBlock) → length (with_item item.Close (record { ops = ops; blocks = blocks })).ops ≤ length ops + 1
+close_longer : (ops : List Op) (blocks : List OpenBlock) → length (with_item item.End (record { ops = ops; blocks = blocks })).ops ≤ length ops + 1
 close_longer ops [] = omega (arith, length-append ops (op.End ∷ []))
 close_longer ops (block ∷ blocks) =
-    omega (arith, length-append (filled block.part block.result block.at (length ops) ops) (op.End ∷ []), length-filled block.part block.result block.at (length ops) ops)
+    omega (arith, length-append (filled block.stage block.result block.at (length ops) ops) (op.End ∷ []), length-filled block.stage block.result block.at (length ops) ops)
 
 longer : (passed : Item) (laid : Laid) → length (with_item passed laid).ops ≤ length laid.ops + 1
 longer (item.Operator o) laid = omega (arith, length-append laid.ops (o ∷ []))
 longer (item.Opens w result) laid = omega (arith, length-append laid.ops (opening w result ∷ []))
-longer item.Turn laid = turn_longer laid.ops laid.blocks
-longer item.Close laid = close_longer laid.ops laid.blocks
+longer item.Else laid = turn_longer laid.ops laid.blocks
+longer item.End laid = close_longer laid.ops laid.blocks
 
 pub goes_on
     : (start : Input) (laid : Laid) (targets : List ℕ) (ahead : Input) (passed : Item) (all : List ℕ) (after : Input)
@@ -147,46 +148,46 @@ item_refused start laid targets ahead NoMemory so_far e = tt
 
 -- what stands at a misplaced `else`, and at the last `end`
 misplaced_turn
-    : (passed : Item) (blocks : List Kind) → standing_of passed blocks ≡ Misplaced → (passed ≡ item.Turn) × (open_behind item.Turn blocks ≡ None)
+    : (passed : Item) (blocks : List Kind) → standing_of passed blocks ≡ Misplaced → (passed ≡ item.Else) × (open_behind item.Else blocks ≡ None)
 misplaced_turn (item.Operator o) blocks is = let bad : ⊥ = cc in absurd bad
 misplaced_turn (item.Opens w result) blocks is = let bad : ⊥ = cc in absurd bad
-misplaced_turn item.Turn [] is = (refl, refl)
-misplaced_turn item.Turn (kind.Block ∷ blocks) is = (refl, refl)
-misplaced_turn item.Turn (kind.Loop ∷ blocks) is = (refl, refl)
-misplaced_turn item.Turn (kind.Then ∷ blocks) is = let bad : ⊥ = cc in absurd bad
-misplaced_turn item.Turn (kind.Else ∷ blocks) is = (refl, refl)
-misplaced_turn item.Close [] is = let bad : ⊥ = cc in absurd bad
-misplaced_turn item.Close (inmost ∷ blocks) is = let bad : ⊥ = cc in absurd bad
+misplaced_turn item.Else [] is = (refl, refl)
+misplaced_turn item.Else (kind.Block ∷ blocks) is = (refl, refl)
+misplaced_turn item.Else (kind.Loop ∷ blocks) is = (refl, refl)
+misplaced_turn item.Else (kind.Then ∷ blocks) is = let bad : ⊥ = cc in absurd bad
+misplaced_turn item.Else (kind.Else ∷ blocks) is = (refl, refl)
+misplaced_turn item.End [] is = let bad : ⊥ = cc in absurd bad
+misplaced_turn item.End (inmost ∷ blocks) is = let bad : ⊥ = cc in absurd bad
 
-last_close : (passed : Item) (blocks : List Kind) → standing_of passed blocks ≡ Last → (passed ≡ item.Close) × (blocks ≡ [])
+last_close : (passed : Item) (blocks : List Kind) → standing_of passed blocks ≡ Last → (passed ≡ item.End) × (blocks ≡ [])
 last_close (item.Operator o) blocks is = let bad : ⊥ = cc in absurd bad
 last_close (item.Opens w result) blocks is = let bad : ⊥ = cc in absurd bad
-last_close item.Turn [] is = let bad : ⊥ = cc in absurd bad
-last_close item.Turn (kind.Block ∷ blocks) is = let bad : ⊥ = cc in absurd bad
-last_close item.Turn (kind.Loop ∷ blocks) is = let bad : ⊥ = cc in absurd bad
-last_close item.Turn (kind.Then ∷ blocks) is = let bad : ⊥ = cc in absurd bad
-last_close item.Turn (kind.Else ∷ blocks) is = let bad : ⊥ = cc in absurd bad
-last_close item.Close [] is = (refl, refl)
-last_close item.Close (inmost ∷ blocks) is = let bad : ⊥ = cc in absurd bad
+last_close item.Else [] is = let bad : ⊥ = cc in absurd bad
+last_close item.Else (kind.Block ∷ blocks) is = let bad : ⊥ = cc in absurd bad
+last_close item.Else (kind.Loop ∷ blocks) is = let bad : ⊥ = cc in absurd bad
+last_close item.Else (kind.Then ∷ blocks) is = let bad : ⊥ = cc in absurd bad
+last_close item.Else (kind.Else ∷ blocks) is = let bad : ⊥ = cc in absurd bad
+last_close item.End [] is = (refl, refl)
+last_close item.End (inmost ∷ blocks) is = let bad : ⊥ = cc in absurd bad
 
 pub turn_refused
     : (start : Input) (laid : Laid) (targets : List ℕ) (ahead : Input) (passed : Item) (all : List ℕ) (after : Input)
     → SoFar start laid targets ahead → item_from (length laid.blocks) targets ahead ≡ Ok ((passed, all), after)
-    → standing_of passed (kinds_of laid.blocks) ≡ Misplaced → RefusesOperators start (fault_at 9 ahead.at)
+    → standing_of passed (kinds_of laid.blocks) ≡ Misplaced → RefusesOperators start (fault_at refusal.BadNesting ahead.at)
 turn_refused start laid targets ahead passed all after so_far e is =
     let turns = misplaced_turn passed (kinds_of laid.blocks) is in
     let P : Item → Type 0 = λ i. ReadsItem (length (kinds_of laid.blocks)) targets ahead (i, all) after in
     let reads = subst P turns.0 (reads_next laid targets ahead (passed, all) after e) in
-    refuses_next start laid targets ahead (fault_at 9 ahead.at) so_far
+    refuses_next start laid targets ahead (fault_at refusal.BadNesting ahead.at) so_far
     (inr (inl record { targets = all; after = after; spelt = reads; no_if = turns.1; told = refl }))
 
 rest_at
     : (start : Input) (laid : Laid) (targets all : List ℕ) (ahead after : Input) (left : List ℕ) → SoFar start laid targets ahead
-    → ReadsItem (length (kinds_of laid.blocks)) targets ahead (item.Close, all) after → kinds_of laid.blocks ≡ []
-    → after.left ≡ left → (left ≡ [] → ⊥) → RefusesOperators start (fault_at 14 after.at)
+    → ReadsItem (length (kinds_of laid.blocks)) targets ahead (item.End, all) after → kinds_of laid.blocks ≡ []
+    → after.left ≡ left → (left ≡ [] → ⊥) → RefusesOperators start (fault_at refusal.RestAfterEnd after.at)
 rest_at start laid targets all ahead after [] so_far reads none e some = absurd (some refl)
 rest_at start laid targets all ahead after (byte ∷ rest) so_far reads none e some =
-    refuses_next start laid targets ahead (fault_at 14 after.at) so_far
+    refuses_next start laid targets ahead (fault_at refusal.RestAfterEnd after.at) so_far
     (inr (inr record {
       targets = all;
       after = after;
@@ -201,7 +202,7 @@ rest_at start laid targets all ahead after (byte ∷ rest) so_far reads none e s
 pub rest_refused
     : (start : Input) (laid : Laid) (targets : List ℕ) (ahead : Input) (passed : Item) (all : List ℕ) (after : Input)
     → SoFar start laid targets ahead → item_from (length laid.blocks) targets ahead ≡ Ok ((passed, all), after)
-    → standing_of passed (kinds_of laid.blocks) ≡ Last → (after.left ≡ [] → ⊥) → RefusesOperators start (fault_at 14 after.at)
+    → standing_of passed (kinds_of laid.blocks) ≡ Last → (after.left ≡ [] → ⊥) → RefusesOperators start (fault_at refusal.RestAfterEnd after.at)
 rest_refused start laid targets ahead passed all after so_far e is some =
     let closes = last_close passed (kinds_of laid.blocks) is in
     let P : Item → Type 0 = λ i. ReadsItem (length (kinds_of laid.blocks)) targets ahead (i, all) after in
@@ -214,7 +215,7 @@ no_blocks : (blocks : List OpenBlock) → kinds_of blocks ≡ [] → blocks ≡ 
 no_blocks [] e = refl
 no_blocks (block ∷ blocks) e = let bad : ⊥ = cc in absurd bad
 
-closed_ops : (laid : Laid) → laid.blocks ≡ [] → (with_item item.Close laid).ops ≡ laid.ops ++ op.End ∷ []
+closed_ops : (laid : Laid) → laid.blocks ≡ [] → (with_item item.End laid).ops ≡ laid.ops ++ op.End ∷ []
 closed_ops laid none = ap (λ (blocks : List OpenBlock). (closed laid.ops blocks).ops) none
 
 pub whole_spelt

@@ -3,24 +3,24 @@ use Rattle.std.proofs.Common.{◌≡◌, ℕ, ◌+◌, ◌<◌, ◌≤◌, List,
 use Rattle.std.proofs.lemmas.List.{length-set, reverse-append}
 use Rattle.wasm_ops.specs.declared.operators.Op.{Op}
 use Rattle.wasm_ops.specs.declared.types.ValType.{ValType}
-use Rattle.wasm_code.specs.declared.blocks.Part.{Part}
-use Rattle.wasm_code.specs.declared.blocks.Part.TheVariants as part
+use Rattle.wasm_code.specs.declared.blocks.Stage.{Stage}
+use Rattle.wasm_code.specs.declared.blocks.Stage.TheVariants as stage
 use Rattle.wasm_code.specs.declared.blocks.OpenBlock.{OpenBlock}
 use Rattle.wasm_code.specs.declared.items.Opener.{Opener}
 use Rattle.wasm_code.specs.declared.items.Opener.TheVariants as opener
-use Rattle.wasm_code.specs.Laying.{IsTurnPlaced, IsPlaced, ArePlaced, first_part, filled}
+use Rattle.wasm_code.specs.Laying.{IsElsePlaced, IsPlaced, ArePlaced, first_stage, filled}
 
-turn_more : (n m : ℕ) (p : Part) → n ≤ m → IsTurnPlaced n p → IsTurnPlaced m p
-turn_more n m part.Block more is = tt
-turn_more n m part.Loop more is = tt
-turn_more n m part.Then more is = tt
-turn_more n m (part.Else turn) more is = omega arith
+turn_more : (n m : ℕ) (p : Stage) → n ≤ m → IsElsePlaced n p → IsElsePlaced m p
+turn_more n m stage.Block more is = tt
+turn_more n m stage.Loop more is = tt
+turn_more n m stage.Then more is = tt
+turn_more n m (stage.Else divide) more is = omega arith
 
 pub placed_more : (n m : ℕ) (blocks : List OpenBlock) → n ≤ m → ArePlaced n blocks → ArePlaced m blocks
 placed_more n m [] more are = tt
 placed_more n m (block ∷ blocks) more are =
     let at : block.at < n = are.0.0 in
-    ((omega arith, turn_more n m block.part more are.0.1), placed_more n m blocks more are.1)
+    ((omega arith, turn_more n m block.stage more are.0.1), placed_more n m blocks more are.1)
 
 -- one more operator
 pub placed_push : (ops : List Op) (o : Op) (blocks : List OpenBlock) → ArePlaced (length ops) blocks → ArePlaced (length (ops ++ o ∷ [])) blocks
@@ -40,7 +40,7 @@ placed_open ops o block blocks is are =
     let long : length ops + 1 ≡ length (ops ++ o ∷ []) = omega (arith, length-append ops (o ∷ [])) in
     subst P (sym (reverse_push blocks block)) (subst Q long is, placed_push ops o (reverse blocks) are)
 
-pub first_placed : (w : Opener) (n : ℕ) → IsTurnPlaced n (first_part w)
+pub first_placed : (w : Opener) (n : ℕ) → IsElsePlaced n (first_stage w)
 first_placed opener.Block n = tt
 first_placed opener.Loop n = tt
 first_placed opener.If n = tt
@@ -53,8 +53,8 @@ placed_pop n all blocks block e are =
     let P : List OpenBlock → Type 0 = ArePlaced n in
     subst P (ap (λ (bs : List OpenBlock). reverse bs) e ∙ reverse_push blocks block) are
 
-pub length-filled : (p : Part) (result : Option ValType) (at end : ℕ) (ops : List Op) → length (filled p result at end ops) ≡ length ops
-length-filled part.Block result at end ops = simp length-set
-length-filled part.Loop result at end ops = simp length-set
-length-filled part.Then result at end ops = simp length-set
-length-filled (part.Else turn) result at end ops = simp length-set
+pub length-filled : (p : Stage) (result : Option ValType) (at end : ℕ) (ops : List Op) → length (filled p result at end ops) ≡ length ops
+length-filled stage.Block result at end ops = simp length-set
+length-filled stage.Loop result at end ops = simp length-set
+length-filled stage.Then result at end ops = simp length-set
+length-filled (stage.Else divide) result at end ops = simp length-set

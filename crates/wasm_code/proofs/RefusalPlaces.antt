@@ -10,18 +10,21 @@ use Rattle.wasm_ops.specs.declared.operators.Op.TheVariants as op
 use Rattle.wasm_ops.specs.declared.types.ValType.{ValType}
 use Rattle.wasm_ops.specs.Input.{Input, end_of, byte_of, byte_from}
 use Rattle.wasm_ops.specs.NumberInput.{fault_of, number_from}
+use Rattle.wasm_ops.specs.declared.faults.Refusal.TheVariants as refusal
+use Rattle.wasm_ops.specs.Limits.{most_targets, most_blocks, most_locals}
+use Rattle.wasm_ops.specs.Refusals.{fault_at}
 use Rattle.wasm_code.specs.declared.items.Item.{Item}
 use Rattle.wasm_code.specs.declared.items.Item.TheVariants as item
 use Rattle.wasm_code.specs.declared.forms.Form.{Form}
-use Rattle.wasm_code.specs.declared.forms.Form.TheVariants.{Operator, Labels, Opens, Turn, Close}
+use Rattle.wasm_code.specs.declared.forms.Form.TheVariants.{Operator, Labels, Opens, Else, End}
 use Rattle.wasm_code.specs.declared.forms.Layout.{Layout}
-use Rattle.wasm_code.specs.declared.forms.Layout.TheVariants.{Bare, Index, Load, Store, Reserved, Word, Long, IndirectCall, Float, Unknown}
+use Rattle.wasm_code.specs.declared.forms.Layout.TheVariants.{Bare, Index, Load, Store, Reserved, I32Const, I64Const, IndirectCall, Float, Unknown}
 use Rattle.wasm_code.specs.Forms.{form_of, with_index}
-use Rattle.wasm_code.specs.Reading.{Read, and_then, as_part, within, fault_at}
-use Rattle.wasm_code.specs.Types.{type_of, result_of, typed, as_from, type_from, block_type_from}
+use Rattle.wasm_code.specs.Reading.{Read, and_then, as_part, within}
+use Rattle.wasm_code.specs.Types.{type_of, block_type_of, typed, as_from, type_from, block_type_from}
 use Rattle.wasm_code.specs.Layouts.{zeroed, zero_from, index_from, address_from, layout_from}
-use Rattle.wasm_code.specs.Items.{most_targets, most_blocks, Parsed, table, ReadsItem, RefusesItem, labels_from, table_from, form_from, item_from}
-use Rattle.wasm_code.specs.Locals.{most_locals, ReadsLocals, RefusesLocals, with_group, group_from, groups_from, locals_from}
+use Rattle.wasm_code.specs.Items.{Parsed, branch_table, ReadsItem, RefusesItem, labels_from, table_from, form_from, item_from}
+use Rattle.wasm_code.specs.Locals.{ReadsLocals, RefusesLocals, with_group, group_from, groups_from, locals_from}
 use Rattle.wasm_code.specs.Bodies.{Place, AreCut, beginning, first_place, RefusesNext, RefusesBody}
 use Rattle.wasm_code.proofs.Decisions.{Decides, number_decides}
 use Rattle.wasm_code.proofs.ItemLaws.{item_decides, locals_decides}
@@ -99,7 +102,7 @@ as_stays of end before e =
 zeroed_stays : (o : Op) (end at byte : ℕ) (there : Input) → at ≤ end → end_of there ≡ end → Stays end (zeroed o at byte there)
 zeroed_stays o end at byte there under e =
     let goes : Read Op = Ok (o, there) in
-    let fails : Read Op = Err (fault_at 13 at) in
+    let fails : Read Op = Err (fault_at refusal.Reserved at) in
     chosen_stays end (byte == 0) goes fails e under
 
 zero_stays : (o : Op) (end : ℕ) (before : Input) → end_of before ≡ end → Stays end (zero_from o before)
@@ -122,9 +125,9 @@ layout_stays (Index kind) end at before under e = index_stays (with_index kind) 
 layout_stays (Load access) end at before under e = address_stays (op.Load access) end before e
 layout_stays (Store access) end at before under e = address_stays (op.Store access) end before e
 layout_stays (Reserved o) end at before under e = zero_stays o end before e
-layout_stays Word end at before under e =
+layout_stays I32Const end at before under e =
     as_part_stays end op.ConstI32 (number_from Signed 32 before) (number_stays Signed 32 end before (omega arith) e)
-layout_stays Long end at before under e =
+layout_stays I64Const end at before under e =
     as_part_stays end op.ConstI64 (number_from Signed 64 before) (number_stays Signed 64 end before (omega arith) e)
 layout_stays IndirectCall end at before under e =
     and_then_stays end (number_from Unsigned 32 before) (λ index there. zero_from (op.CallIndirect index) there) (u32_stays end before e)
@@ -143,11 +146,11 @@ labels_stays (suc count) targets end before e =
 table_stays : (targets : List ℕ) (end : ℕ) (before : Input) → end_of before ≡ end → Stays end (table_from targets before)
 table_stays targets end before e =
     and_then_stays end (number_from Unsigned 32 before)
-    (λ count there. within most_targets count (fault_at 12 before.at) (as_part (table targets count) (labels_from (suc count) targets there)))
+    (λ count there. within most_targets count (fault_at refusal.TooManyTargets before.at) (as_part (branch_table targets count) (labels_from (suc count) targets there)))
     (u32_stays end before e)
-    (λ count there same. within_stays end most_targets count (fault_at 12 before.at) (as_part (table targets count) (labels_from (suc count) targets there))
+    (λ count there same. within_stays end most_targets count (fault_at refusal.TooManyTargets before.at) (as_part (branch_table targets count) (labels_from (suc count) targets there))
     (omega arith)
-    (as_part_stays end (table targets count) (labels_from (suc count) targets there) (labels_stays (suc count) targets end there same)))
+    (as_part_stays end (branch_table targets count) (labels_from (suc count) targets there) (labels_stays (suc count) targets end there same)))
 
 form_stays
     : (form : Form) (depth : ℕ) (targets : List ℕ) (end at : ℕ) (before : Input) → at ≤ end → end_of before ≡ end
@@ -157,10 +160,10 @@ form_stays (Operator layout) depth targets end at before under e =
 form_stays Labels depth targets end at before under e = table_stays targets end before e
 form_stays (Opens opener) depth targets end at before under e =
     let view : Option ValType → Parsed = λ result. (item.Opens opener result, targets) in
-    within_stays end most_blocks (depth + 1) (fault_at 10 at) (as_part view (block_type_from before)) under
-    (as_part_stays end view (block_type_from before) (as_stays result_of end before e))
-form_stays Turn depth targets end at before under e = e
-form_stays Close depth targets end at before under e = e
+    within_stays end most_blocks (depth + 1) (fault_at refusal.TooDeep at) (as_part view (block_type_from before)) under
+    (as_part_stays end view (block_type_from before) (as_stays block_type_of end before e))
+form_stays Else depth targets end at before under e = e
+form_stays End depth targets end at before under e = e
 
 item_stays : (depth : ℕ) (targets : List ℕ) (before : Input) → Stays (end_of before) (item_from depth targets before)
 item_stays depth targets before =
@@ -173,9 +176,9 @@ item_stays depth targets before =
 group_stays : (locals : List ValType) (end : ℕ) (before : Input) → end_of before ≡ end → Stays end (group_from locals before)
 group_stays locals end before e =
     and_then_stays end (number_from Unsigned 32 before)
-    (λ count there. within most_locals (length locals + count) (fault_at 11 before.at) (as_part (with_group locals count) (type_from there)))
+    (λ count there. within most_locals (length locals + count) (fault_at refusal.TooManyLocals before.at) (as_part (with_group locals count) (type_from there)))
     (u32_stays end before e)
-    (λ count there same. within_stays end most_locals (length locals + count) (fault_at 11 before.at) (as_part (with_group locals count) (type_from there))
+    (λ count there same. within_stays end most_locals (length locals + count) (fault_at refusal.TooManyLocals before.at) (as_part (with_group locals count) (type_from there))
     (omega arith)
     (as_part_stays end (with_group locals count) (type_from there) (as_stays type_of end there same)))
 
@@ -238,7 +241,7 @@ next_placed here fault (inr (inl misplaced)) =
     let place = ap (λ (f : Fault). f.place) misplaced.told in omega arith
 next_placed here fault (inr (inr remains)) =
     let place = ap (λ (f : Fault). f.place) remains.told in
-    let end = item_end (length here.blocks) here.targets here.ahead (item.Close, remains.targets) remains.after remains.spelt in omega arith
+    let end = item_end (length here.blocks) here.targets here.ahead (item.End, remains.targets) remains.after remains.spelt in omega arith
 
 pub body_placed : (bytes : List ℕ) (fault : Fault) → RefusesBody bytes fault → fault.place ≤ length bytes
 body_placed bytes fault (inl refuses) = let placed = locals_placed (beginning bytes) fault refuses in omega arith

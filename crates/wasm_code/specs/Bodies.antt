@@ -5,12 +5,13 @@ use Rattle.wasm_ops.specs.declared.modules.Body.{Body}
 use Rattle.wasm_ops.specs.declared.types.ValType.{ValType}
 use Rattle.wasm_ops.specs.Input.{Input}
 use Rattle.wasm_ops.specs.Sequence.{Sequence, Done, Plain, InBlock, InLoop, InIf, InIfElse, IsNested, flat_body}
+use Rattle.wasm_ops.specs.declared.faults.Refusal.TheVariants as refusal
+use Rattle.wasm_ops.specs.Refusals.{fault_at}
 use Rattle.wasm_code.specs.declared.items.Item.{Item}
 use Rattle.wasm_code.specs.declared.items.Item.TheVariants as item
 use Rattle.wasm_code.specs.declared.items.Opener.TheVariants as opener
 use Rattle.wasm_code.specs.declared.items.Kind.{Kind}
 use Rattle.wasm_code.specs.declared.items.Kind.TheVariants as kind
-use Rattle.wasm_code.specs.Reading.{fault_at}
 use Rattle.wasm_code.specs.Items.{ReadsItem, RefusesItem}
 use Rattle.wasm_code.specs.Locals.{ReadsLocals, RefusesLocals}
 
@@ -18,11 +19,11 @@ use Rattle.wasm_code.specs.Locals.{ReadsLocals, RefusesLocals}
 abbrev pub items_of : Sequence → List Item
 items_of Done = []
 items_of (Plain op rest) = item.Operator op ∷ items_of rest
-items_of (InBlock result body rest) = item.Opens opener.Block result ∷ (items_of body ++ item.Close ∷ items_of rest)
-items_of (InLoop result body rest) = item.Opens opener.Loop result ∷ (items_of body ++ item.Close ∷ items_of rest)
-items_of (InIf result inner rest) = item.Opens opener.If result ∷ (items_of inner ++ item.Close ∷ items_of rest)
+items_of (InBlock result body rest) = item.Opens opener.Block result ∷ (items_of body ++ item.End ∷ items_of rest)
+items_of (InLoop result body rest) = item.Opens opener.Loop result ∷ (items_of body ++ item.End ∷ items_of rest)
+items_of (InIf result inner rest) = item.Opens opener.If result ∷ (items_of inner ++ item.End ∷ items_of rest)
 items_of (InIfElse result inner other rest) =
-    item.Opens opener.If result ∷ (items_of inner ++ item.Turn ∷ (items_of other ++ item.Close ∷ items_of rest))
+    item.Opens opener.If result ∷ (items_of inner ++ item.Else ∷ (items_of other ++ item.End ∷ items_of rest))
 
 -- the blocks that are open behind an item, the inmost first, where these are open before it; none where the item may not stand there
 abbrev pub open_behind : Item → List Kind → Option (List Kind)
@@ -30,10 +31,10 @@ open_behind (item.Operator op) blocks = Some blocks
 open_behind (item.Opens opener.Block result) blocks = Some (kind.Block ∷ blocks)
 open_behind (item.Opens opener.Loop result) blocks = Some (kind.Loop ∷ blocks)
 open_behind (item.Opens opener.If result) blocks = Some (kind.Then ∷ blocks)
-open_behind item.Turn (kind.Then ∷ blocks) = Some (kind.Else ∷ blocks)
-open_behind item.Turn blocks = None
-open_behind item.Close [] = None
-open_behind item.Close (inmost ∷ blocks) = Some blocks
+open_behind item.Else (kind.Then ∷ blocks) = Some (kind.Else ∷ blocks)
+open_behind item.Else blocks = None
+open_behind item.End [] = None
+open_behind item.End (inmost ∷ blocks) = Some blocks
 
 -- a place between two items: the blocks that are open, the labels of the `br_table`s so far, and what lies ahead
 pub record Place : Type 0 where
@@ -68,7 +69,7 @@ pub record SpellsBody (bytes : List ℕ) (body : Body) : Type 0 where
   pub locals : ReadsLocals (beginning bytes) body.locals start
   pub cut : AreCut (items_of sequence) (first_place start) last
   pub no_block : last.blocks ≡ []
-  pub closed : ReadsItem (length last.blocks) last.targets last.ahead (item.Close, body.targets) after
+  pub closed : ReadsItem (length last.blocks) last.targets last.ahead (item.End, body.targets) after
   pub whole : after.left ≡ []
   pub nested : IsNested sequence
   pub laid_out : body.ops ≡ flat_body sequence
@@ -77,9 +78,9 @@ pub record SpellsBody (bytes : List ℕ) (body : Body) : Type 0 where
 pub record Misplaced (here : Place) (fault : Fault) : Type 0 where
   pub targets : List ℕ
   pub after : Input
-  pub spelt : ReadsItem (length here.blocks) here.targets here.ahead (item.Turn, targets) after
-  pub no_if : open_behind item.Turn here.blocks ≡ None
-  pub told : fault ≡ fault_at 9 here.ahead.at
+  pub spelt : ReadsItem (length here.blocks) here.targets here.ahead (item.Else, targets) after
+  pub no_if : open_behind item.Else here.blocks ≡ None
+  pub told : fault ≡ fault_at refusal.BadNesting here.ahead.at
 
 -- bytes behind the `end` that closes the body
 pub record Remains (here : Place) (fault : Fault) : Type 0 where
@@ -88,9 +89,9 @@ pub record Remains (here : Place) (fault : Fault) : Type 0 where
   pub byte : ℕ
   pub rest : List ℕ
   pub no_block : here.blocks ≡ []
-  pub spelt : ReadsItem (length here.blocks) here.targets here.ahead (item.Close, targets) after
+  pub spelt : ReadsItem (length here.blocks) here.targets here.ahead (item.End, targets) after
   pub more : after.left ≡ byte ∷ rest
-  pub told : fault ≡ fault_at 14 after.at
+  pub told : fault ≡ fault_at refusal.RestAfterEnd after.at
 
 -- the item that would come next is refused
 abbrev pub RefusesNext : (here : Place) (fault : Fault) → Type 0

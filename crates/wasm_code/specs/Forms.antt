@@ -1,15 +1,17 @@
 -- Which operator each byte begins, and what follows it (WebAssembly Core 1.0, section 5.4).
-use Rattle.std.specs.Prelude.{ℕ, Bool, true, false, ◌==◌, ◌||◌, nat_lt, if◌then◌else◌, List, [], ◌∷◌}
+use Rattle.std.specs.Prelude.{ℕ, Bool, true, false, ◌==◌, ◌||◌, nat_lt, if◌then◌else◌, List, [], ◌∷◌, Option, Some, None}
 use Rattle.wasm_ops.specs.declared.operators.Op.{Op}
 use Rattle.wasm_ops.specs.declared.operators.Op.TheVariants as op
 use Rattle.wasm_ops.specs.declared.types.Access.{Access}
 use Rattle.wasm_ops.specs.declared.types.ValType.{ValType}
 use Rattle.wasm_ops.specs.declared.types.ValType.TheVariants.{I32, I64}
-use Rattle.wasm_ops.specs.IntOps.{is_int_op, is_between}
+use Rattle.wasm_ops.specs.declared.operations.Operation.{Operation}
+use Rattle.wasm_ops.specs.IntOps.{is_between}
+use Rattle.wasm_ops.specs.Operations.{operation_of, takes_one}
 use Rattle.wasm_code.specs.declared.items.Opener.TheVariants as opener
 use Rattle.wasm_code.specs.declared.forms.Form.{Form}
-use Rattle.wasm_code.specs.declared.forms.Form.TheVariants.{Operator, Labels, Opens, Turn, Close}
-use Rattle.wasm_code.specs.declared.forms.Layout.TheVariants.{Bare, Index, Load, Store, Reserved, Word, Long, IndirectCall, Float, Unknown}
+use Rattle.wasm_code.specs.declared.forms.Form.TheVariants.{Operator, Labels, Opens, Else, End}
+use Rattle.wasm_code.specs.declared.forms.Layout.TheVariants.{Bare, Index, Load, Store, Reserved, I32Const, I64Const, IndirectCall, Float, Unknown}
 use Rattle.wasm_code.specs.declared.forms.Indexed.{Indexed}
 use Rattle.wasm_code.specs.declared.forms.Indexed.TheVariants as indexed
 
@@ -24,14 +26,14 @@ abbrev index : Indexed → Form
 index o = Operator (Index o)
 
 -- so many bytes are moved, with the sign or without it
-abbrev moved : ValType → (width : ℕ) → (signed : Bool) → Access
-moved value width signed = record { value = value; width = width; signed = signed }
+abbrev access_of : ValType → (width : ℕ) → (signed : Bool) → Access
+access_of value width signed = record { value = value; width = width; signed = signed }
 
 abbrev load : ValType → ℕ → Bool → Form
-load value width signed = Operator (Load (moved value width signed))
+load value width signed = Operator (Load (access_of value width signed))
 
 abbrev store : ValType → ℕ → Form
-store value width = Operator (Store (moved value width false))
+store value width = Operator (Store (access_of value width false))
 
 -- section 5.4.1
 abbrev pub control_rows : Rows
@@ -41,8 +43,8 @@ control_rows =
     ∷ (0x02, Opens opener.Block)
     ∷ (0x03, Opens opener.Loop)
     ∷ (0x04, Opens opener.If)
-    ∷ (0x05, Turn)
-    ∷ (0x0B, Close)
+    ∷ (0x05, Else)
+    ∷ (0x0B, End)
     ∷ (0x0C, index indexed.Br)
     ∷ (0x0D, index indexed.BrIf)
     ∷ (0x0E, Labels)
@@ -92,8 +94,8 @@ store_rows =
     ∷ (0x3E, store I64 4)
     ∷ (0x3F, Operator (Reserved op.MemorySize))
     ∷ (0x40, Operator (Reserved op.MemoryGrow))
-    ∷ (0x41, Operator Word)
-    ∷ (0x42, Operator Long)
+    ∷ (0x41, Operator I32Const)
+    ∷ (0x42, Operator I64Const)
     ∷ []
 
 -- what the byte begins by the table, which knows no other bytes
@@ -107,13 +109,9 @@ row_of byte =
     then (if nat_lt byte 0x1A then look_up control_rows byte else look_up variable_rows byte)
     else (if nat_lt byte 0x36 then look_up load_rows byte else look_up store_rows byte)
 
--- section 5.4.5: the integer operators of one operand are eqz, clz, ctz, popcnt and the conversions
-abbrev pub takes_one : (byte : ℕ) → Bool
-takes_one byte =
-    byte == 0x45 || byte == 0x50 || is_between 0x67 0x69 byte || is_between 0x79 0x7B byte || is_between 0xA7 0xAD byte
-
-abbrev pub int_op : (byte : ℕ) → Op
-int_op byte = if takes_one byte then op.Unary byte else op.Binary byte
+-- section 5.4.5: an integer operator, of one operand or of two, as its operation says
+abbrev pub int_op : (byte : ℕ) → Operation → Op
+int_op byte operation = if takes_one operation then op.Unary byte else op.Binary byte
 
 -- the byte is that of a float operator: loads, stores and constants, comparisons, arithmetic and conversions
 abbrev pub is_float_op : (byte : ℕ) → Bool
@@ -121,10 +119,13 @@ is_float_op byte =
     is_between 0x2A 0x2B byte || is_between 0x38 0x39 byte || is_between 0x43 0x44 byte || is_between 0x5B 0x66 byte
     || is_between 0x8B 0xA6 byte || is_between 0xA8 0xAB byte || is_between 0xAE 0xBF byte
 
+-- what the byte begins: an integer operator, if it does something on integers, or else a float operator or what the rows say
+abbrev pub form_with : (byte : ℕ) → Option Operation → Form
+form_with byte (Some operation) = bare (int_op byte operation)
+form_with byte None = if is_float_op byte then Operator Float else row_of byte
+
 abbrev pub form_of : (byte : ℕ) → Form
-form_of byte =
-    if is_int_op byte then bare (int_op byte)
-    else (if is_float_op byte then Operator Float else row_of byte)
+form_of byte = form_with byte (operation_of byte)
 
 -- the operator with its index or label
 abbrev pub with_index : Indexed → ℕ → Op

@@ -6,10 +6,12 @@ use Rattle.wasm_ops.specs.declared.operators.Op.TheVariants as op
 use Rattle.wasm_ops.specs.declared.numbers.Sign.TheVariants.{Unsigned, Signed}
 use Rattle.wasm_ops.specs.Input.{Input, byte_from}
 use Rattle.wasm_ops.specs.NumberInput.{ReadsNumber, RefusesNumber, number_from}
+use Rattle.wasm_ops.specs.declared.faults.Refusal.TheVariants as refusal
+use Rattle.wasm_ops.specs.Refusals.{fault_at}
 use Rattle.wasm_code.specs.declared.forms.Layout.{Layout}
-use Rattle.wasm_code.specs.declared.forms.Layout.TheVariants.{Bare, Index, Load, Store, Reserved, Word, Long, IndirectCall, Float, Unknown}
+use Rattle.wasm_code.specs.declared.forms.Layout.TheVariants.{Bare, Index, Load, Store, Reserved, I32Const, I64Const, IndirectCall, Float, Unknown}
 use Rattle.wasm_code.specs.Forms.{with_index}
-use Rattle.wasm_code.specs.Reading.{Read, and_then, as_part, fault_at, ReadsByte, LacksByte}
+use Rattle.wasm_code.specs.Reading.{Read, and_then, as_part, ReadsByte, LacksByte}
 
 -- a byte 00, of an operator
 abbrev pub ReadsZero : Op → (before : Input) (operator : Op) (after : Input) → Type 0
@@ -20,7 +22,7 @@ ReadsZero o before operator after =
 abbrev pub RefusesZero : (before : Input) (fault : Fault) → Type 0
 RefusesZero before fault =
     LacksByte before fault
-    ⊎ ((byte : ℕ) × (there : Input) × ReadsByte before byte there × ((byte ≢ 0) × (fault ≡ fault_at 13 before.at)))
+    ⊎ ((byte : ℕ) × (there : Input) × ReadsByte before byte there × ((byte ≢ 0) × (fault ≡ fault_at refusal.Reserved before.at)))
 
 -- a number, as a part of an operator
 abbrev pub ReadsIndex : (ℕ → Op) → (before : Input) (operator : Op) (after : Input) → Type 0
@@ -44,9 +46,9 @@ ReadsLayout (Index kind) before operator after = ReadsIndex (with_index kind) be
 ReadsLayout (Load access) before operator after = ReadsAddress (op.Load access) before operator after
 ReadsLayout (Store access) before operator after = ReadsAddress (op.Store access) before operator after
 ReadsLayout (Reserved o) before operator after = ReadsZero o before operator after
-ReadsLayout Word before operator after =
+ReadsLayout I32Const before operator after =
     (number : ℕ) × ReadsNumber Signed 32 before number after × (operator ≡ op.ConstI32 number)
-ReadsLayout Long before operator after =
+ReadsLayout I64Const before operator after =
     (number : ℕ) × ReadsNumber Signed 64 before number after × (operator ≡ op.ConstI64 number)
 ReadsLayout IndirectCall before operator after =
     (index : ℕ) × (there : Input) × ReadsNumber Unsigned 32 before index there × ReadsZero (op.CallIndirect index) there operator after
@@ -60,18 +62,18 @@ RefusesLayout (Index kind) at before fault = RefusesNumber Unsigned 32 before fa
 RefusesLayout (Load access) at before fault = RefusesAddress before fault
 RefusesLayout (Store access) at before fault = RefusesAddress before fault
 RefusesLayout (Reserved o) at before fault = RefusesZero before fault
-RefusesLayout Word at before fault = RefusesNumber Signed 32 before fault
-RefusesLayout Long at before fault = RefusesNumber Signed 64 before fault
+RefusesLayout I32Const at before fault = RefusesNumber Signed 32 before fault
+RefusesLayout I64Const at before fault = RefusesNumber Signed 64 before fault
 RefusesLayout IndirectCall at before fault =
     RefusesNumber Unsigned 32 before fault
     ⊎ ((index : ℕ) × (there : Input) × ReadsNumber Unsigned 32 before index there × RefusesZero there fault)
-RefusesLayout Float at before fault = fault ≡ fault_at 5 at
-RefusesLayout Unknown at before fault = fault ≡ fault_at 6 at
+RefusesLayout Float at before fault = fault ≡ fault_at refusal.FloatOperator at
+RefusesLayout Unknown at before fault = fault ≡ fault_at refusal.UnknownOperator at
 
 -- The same as functions.
 
 abbrev pub zeroed : Op → (at byte : ℕ) → Input → Read Op
-zeroed o at byte after = if byte == 0 then Ok (o, after) else Err (fault_at 13 at)
+zeroed o at byte after = if byte == 0 then Ok (o, after) else Err (fault_at refusal.Reserved at)
 
 abbrev pub zero_from : Op → Input → Read Op
 zero_from o before = and_then (byte_from before) (λ byte after. zeroed o before.at byte after)
@@ -88,9 +90,9 @@ layout_from (Index kind) at before = index_from (with_index kind) before
 layout_from (Load access) at before = address_from (op.Load access) before
 layout_from (Store access) at before = address_from (op.Store access) before
 layout_from (Reserved o) at before = zero_from o before
-layout_from Word at before = as_part op.ConstI32 (number_from Signed 32 before)
-layout_from Long at before = as_part op.ConstI64 (number_from Signed 64 before)
+layout_from I32Const at before = as_part op.ConstI32 (number_from Signed 32 before)
+layout_from I64Const at before = as_part op.ConstI64 (number_from Signed 64 before)
 layout_from IndirectCall at before =
     and_then (number_from Unsigned 32 before) (λ index there. zero_from (op.CallIndirect index) there)
-layout_from Float at before = Err (fault_at 5 at)
-layout_from Unknown at before = Err (fault_at 6 at)
+layout_from Float at before = Err (fault_at refusal.FloatOperator at)
+layout_from Unknown at before = Err (fault_at refusal.UnknownOperator at)

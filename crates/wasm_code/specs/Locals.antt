@@ -3,14 +3,13 @@ use Rattle.std.specs.Prelude.{◌≡◌, ◌⊎◌, ℕ, suc, zero, ◌+◌, ◌
 use Rattle.wasm_ops.specs.declared.faults.Fault.{Fault}
 use Rattle.wasm_ops.specs.declared.types.ValType.{ValType}
 use Rattle.wasm_ops.specs.declared.numbers.Sign.TheVariants.{Unsigned}
+use Rattle.wasm_ops.specs.Limits.{most_locals}
 use Rattle.wasm_ops.specs.Input.{Input}
 use Rattle.wasm_ops.specs.NumberInput.{ReadsNumber, RefusesNumber, number_from}
-use Rattle.wasm_code.specs.Reading.{Read, and_then, as_part, within, fault_at}
+use Rattle.wasm_ops.specs.declared.faults.Refusal.TheVariants as refusal
+use Rattle.wasm_ops.specs.Refusals.{fault_at}
+use Rattle.wasm_code.specs.Reading.{Read, and_then, as_part, within}
 use Rattle.wasm_code.specs.Types.{ReadsType, RefusesType, type_from}
-
--- the most locals, all groups counted
-abbrev pub most_locals : ℕ
-most_locals = 1024
 
 -- a group: so many locals of one type
 pub record Group : Type 0 where
@@ -38,7 +37,7 @@ abbrev pub RefusesGroup : (locals : List ValType) (before : Input) (fault : Faul
 RefusesGroup locals before fault =
     RefusesNumber Unsigned 32 before fault
     ⊎ ((count : ℕ) × (there : Input) × ReadsNumber Unsigned 32 before count there
-    × (((most_locals < length locals + count) × (fault ≡ fault_at 11 before.at))
+    × (((most_locals < length locals + count) × (fault ≡ fault_at refusal.TooManyLocals before.at))
     ⊎ ((length locals + count ≤ most_locals) × RefusesType there fault)))
 
 -- fewer stand there, and the next one is refused
@@ -65,7 +64,7 @@ with_group locals count value = locals ++ replicate count value
 abbrev pub group_from : (locals : List ValType) → Input → Read (List ValType)
 group_from locals before =
     and_then (number_from Unsigned 32 before) (λ count there.
-    within most_locals (length locals + count) (fault_at 11 before.at) (as_part (with_group locals count) (type_from there)))
+    within most_locals (length locals + count) (fault_at refusal.TooManyLocals before.at) (as_part (with_group locals count) (type_from there)))
 
 abbrev pub groups_from : (groups : ℕ) (locals : List ValType) → Input → Read (List ValType)
 groups_from zero locals before = Ok (locals, before)

@@ -17,7 +17,7 @@ pub record SpellsOperators (start : Input) (ops : List Op) (targets : List ℕ) 
   pub after : Input
   pub cut : AreCut items (first_place start) last
   pub no_block : last.blocks ≡ []
-  pub closed : ReadsItem (length last.blocks) last.targets last.ahead (item.Close, targets) after
+  pub closed : ReadsItem (length last.blocks) last.targets last.ahead (item.End, targets) after
   pub whole : after.left ≡ []
   pub laid_out : ops ≡ (with_items items nothing).ops ++ op.End ∷ []
 

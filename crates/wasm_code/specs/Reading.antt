@@ -21,10 +21,6 @@ as_part view (Err fault) = Err fault
 abbrev pub within : {A : Type 0} → (limit number : ℕ) → Fault → Read A → Read A
 within limit number fault read = if nat_lt limit number then Err fault else read
 
--- a fault with its number, at a place
-abbrev pub fault_at : (number place : ℕ) → Fault
-fault_at number place = record { number = number; place = place }
-
 -- the next byte, and the place behind it
 pub record ReadsByte (before : Input) (byte : ℕ) (after : Input) : Type 0 where
   pub next : before.left ≡ byte ∷ after.left

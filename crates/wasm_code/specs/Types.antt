@@ -4,21 +4,24 @@ use Rattle.wasm_ops.specs.declared.faults.Fault.{Fault}
 use Rattle.wasm_ops.specs.declared.types.ValType.{ValType}
 use Rattle.wasm_ops.specs.declared.types.ValType.TheVariants.{I32, I64}
 use Rattle.wasm_ops.specs.Input.{Input, byte_from}
-use Rattle.wasm_code.specs.Reading.{Read, and_then, fault_at, ReadsByte, LacksByte}
+use Rattle.wasm_ops.specs.declared.faults.Refusal.{Refusal}
+use Rattle.wasm_ops.specs.declared.faults.Refusal.TheVariants as refusal
+use Rattle.wasm_ops.specs.Refusals.{fault_at}
+use Rattle.wasm_code.specs.Reading.{Read, and_then, ReadsByte, LacksByte}
 
 -- the type that a byte is
 abbrev pub type_of : ℕ → Option ValType
 type_of byte = if byte == 0x7F then Some I32 else (if byte == 0x7E then Some I64 else None)
 
 -- the result that a byte gives to a block: none, or a value of a type
-abbrev pub result_of : ℕ → Option (Option ValType)
-result_of byte =
+abbrev pub block_type_of : ℕ → Option (Option ValType)
+block_type_of byte =
     if byte == 0x40 then Some None
     else (if byte == 0x7F then Some (Some I32) else (if byte == 0x7E then Some (Some I64) else None))
 
--- the number of the fault of a byte that is neither: a float type, or no type at all
-abbrev pub no_type : ℕ → ℕ
-no_type byte = if byte == 0x7D || byte == 0x7C then 7 else 8
+-- why a byte that is neither is refused: it is a float type, or no type at all
+abbrev pub no_type : ℕ → Refusal
+no_type byte = if byte == 0x7D || byte == 0x7C then refusal.FloatType else refusal.BadType
 
 -- a byte, and what it is
 abbrev pub ReadsAs : {A : Type 0} → (of : ℕ → Option A) (before : Input) (x : A) (after : Input) → Type 0
@@ -39,10 +42,10 @@ abbrev pub RefusesType : (before : Input) (fault : Fault) → Type 0
 RefusesType = RefusesAs type_of
 
 abbrev pub ReadsBlockType : (before : Input) (result : Option ValType) (after : Input) → Type 0
-ReadsBlockType = ReadsAs result_of
+ReadsBlockType = ReadsAs block_type_of
 
 abbrev pub RefusesBlockType : (before : Input) (fault : Fault) → Type 0
-RefusesBlockType = RefusesAs result_of
+RefusesBlockType = RefusesAs block_type_of
 
 -- The same as functions.
 
@@ -57,4 +60,4 @@ abbrev pub type_from : Input → Read ValType
 type_from before = as_from type_of before
 
 abbrev pub block_type_from : Input → Read (Option ValType)
-block_type_from before = as_from result_of before
+block_type_from before = as_from block_type_of before

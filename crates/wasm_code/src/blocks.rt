@@ -4,7 +4,7 @@ use wasm_ops::ValType;
 
 /// What of a block is being read.
 #[derive(Clone, Copy)]
-pub(crate) enum Part {
+pub(crate) enum Stage {
     /// The body of a `block`.
     Block,
 
@@ -22,7 +22,7 @@ pub(crate) enum Part {
 #[derive(Clone, Copy)]
 pub(crate) struct OpenBlock {
     /// What of it is being read.
-    pub(crate) part: Part,
+    pub(crate) stage: Stage,
 
     /// Its result.
     pub(crate) result: Option<ValType>,

@@ -12,7 +12,7 @@ use crate::item_reader::read_item;
 use crate::laying::Laying;
 use crate::locals::read_locals;
 use std::alloc::Global;
-use wasm_ops::{Body, Cursor, Fault, Items, Op};
+use wasm_ops::{Body, Cursor, Items, Op, Refusal};
 
 /// The body that the bytes spell, all of them.
 ///
@@ -62,17 +62,11 @@ fn read_operators(alloc: Global, cursor: &mut Cursor<'_>) -> Result<(Vec<Op>, Ve
         match laying.take(&item)? {
             Standing::Inside => {}
             Standing::Misplaced => {
-                return Err(CodeFault::Bytes(Fault {
-                    number: 9,
-                    place: at,
-                }));
+                return Err(CodeFault::Bytes(Refusal::BadNesting.at(at)));
             }
             Standing::Last => {
                 if !cursor.is_at_end() {
-                    return Err(CodeFault::Bytes(Fault {
-                        number: 14,
-                        place: cursor.at(),
-                    }));
+                    return Err(CodeFault::Bytes(Refusal::RestAfterEnd.at(cursor.at())));
                 }
                 return Ok((laying.into_ops(), targets));
             }

@@ -1,9 +1,9 @@
 //! What each byte begins in a body, and what follows it (WebAssembly Core 1.0, section 5.4).
-ghost use Rattle.std.specs.Prelude.{◌≡◌, false};
-ghost use Rattle.wasm_code.specs.Forms.{is_float_op, form_of, int_op, row_of, look_up, with_index, control_rows, variable_rows, load_rows, store_rows};
+ghost use Rattle.std.specs.Prelude.{◌≡◌, false, None};
+ghost use Rattle.wasm_code.specs.Forms.{is_float_op, form_of, form_with, int_op, row_of, look_up, with_index, control_rows, variable_rows, load_rows, store_rows};
 
 use crate::items::Opener;
-use wasm_ops::{Access, IntOp, Op, ValType};
+use wasm_ops::{Access, IntOp, Op, Operation, ValType};
 
 /// What a byte begins in the place of an operator.
 #[derive(Clone, Copy)]
@@ -18,10 +18,10 @@ pub enum Form {
     Opens(Opener),
 
     /// `else`
-    Turn,
+    Else,
 
     /// `end`
-    Close,
+    End,
 }
 
 /// What follows the byte of an operator.
@@ -43,10 +43,10 @@ pub enum Layout {
     Reserved(Op),
 
     /// A signed number of 32 bits, of `i32.const`.
-    Word,
+    I32Const,
 
     /// A signed number of 64 bits, of `i64.const`.
-    Long,
+    I64Const,
 
     /// The index of a type and a byte that must be 00, of `call_indirect`.
     IndirectCall,
@@ -110,15 +110,19 @@ impl Form {
         ensures { result ≡ form_of byte }
     {
         match IntOp::from_byte(byte) {
-            Some(op) => bare(integer(op)),
-            None => {
-                if is_float(byte) {
-                    Form::Operator(Layout::Float)
-                } else {
-                    row(byte)
-                }
-            }
+            Some(op) => bare(integer(op, op.operation())),
+            None => other(byte),
         }
+    }
+}
+
+fn other(byte: u8) -> Form
+    ensures { result ≡ form_with byte None }
+{
+    if is_float(byte) {
+        Form::Operator(Layout::Float)
+    } else {
+        row(byte)
     }
 }
 
@@ -128,12 +132,13 @@ fn bare(op: Op) -> Form
     Form::Operator(Layout::Bare(op))
 }
 
-fn integer(op: IntOp) -> Op
-    ensures { result ≡ int_op op }
+fn integer(op: IntOp, operation: Operation) -> Op
+    ensures { result ≡ int_op op operation }
 {
-    match op.byte() {
-        0x45 | 0x50 | 0x67..=0x69 | 0x79..=0x7B | 0xA7..=0xAD => Op::Unary(op),
-        _ => Op::Binary(op),
+    if operation.takes_one_operand() {
+        Op::Unary(op)
+    } else {
+        Op::Binary(op)
     }
 }
 
@@ -171,8 +176,8 @@ fn control(byte: u8) -> Form
         0x02 => Form::Opens(Opener::Block),
         0x03 => Form::Opens(Opener::Loop),
         0x04 => Form::Opens(Opener::If),
-        0x05 => Form::Turn,
-        0x0B => Form::Close,
+        0x05 => Form::Else,
+        0x0B => Form::End,
         0x0C => index(Indexed::Br),
         0x0D => index(Indexed::BrIf),
         0x0E => Form::Labels,
@@ -208,25 +213,25 @@ fn load(byte: u8) -> Form
     ensures { result ≡ look_up load_rows byte }
 {
     let access = match byte {
-        0x28 => moved(ValType::I32, 4, false),
-        0x29 => moved(ValType::I64, 8, false),
-        0x2C => moved(ValType::I32, 1, true),
-        0x2D => moved(ValType::I32, 1, false),
-        0x2E => moved(ValType::I32, 2, true),
-        0x2F => moved(ValType::I32, 2, false),
-        0x30 => moved(ValType::I64, 1, true),
-        0x31 => moved(ValType::I64, 1, false),
-        0x32 => moved(ValType::I64, 2, true),
-        0x33 => moved(ValType::I64, 2, false),
-        0x34 => moved(ValType::I64, 4, true),
-        0x35 => moved(ValType::I64, 4, false),
+        0x28 => access_of(ValType::I32, 4, false),
+        0x29 => access_of(ValType::I64, 8, false),
+        0x2C => access_of(ValType::I32, 1, true),
+        0x2D => access_of(ValType::I32, 1, false),
+        0x2E => access_of(ValType::I32, 2, true),
+        0x2F => access_of(ValType::I32, 2, false),
+        0x30 => access_of(ValType::I64, 1, true),
+        0x31 => access_of(ValType::I64, 1, false),
+        0x32 => access_of(ValType::I64, 2, true),
+        0x33 => access_of(ValType::I64, 2, false),
+        0x34 => access_of(ValType::I64, 4, true),
+        0x35 => access_of(ValType::I64, 4, false),
         _ => return Form::Operator(Layout::Unknown),
     };
     Form::Operator(Layout::Load(access))
 }
 
 // So many bytes are moved, with the sign or without it.
-fn moved(value: ValType, width: u32, signed: bool) -> Access
+fn access_of(value: ValType, width: u8, signed: bool) -> Access
     ensures { result ≡ record { value = value; width = width; signed = signed } }
 {
     Access {
@@ -249,14 +254,14 @@ fn store(byte: u8) -> Form
         0x3E => stored(ValType::I64, 4),
         0x3F => Form::Operator(Layout::Reserved(Op::MemorySize)),
         0x40 => Form::Operator(Layout::Reserved(Op::MemoryGrow)),
-        0x41 => Form::Operator(Layout::Word),
-        0x42 => Form::Operator(Layout::Long),
+        0x41 => Form::Operator(Layout::I32Const),
+        0x42 => Form::Operator(Layout::I64Const),
         _ => Form::Operator(Layout::Unknown),
     }
 }
 
-fn stored(value: ValType, width: u32) -> Form
+fn stored(value: ValType, width: u8) -> Form
     ensures { result ≡ Form.Operator (Layout.Store (record { value = value; width = width; signed = false })) }
 {
-    Form::Operator(Layout::Store(moved(value, width, false)))
+    Form::Operator(Layout::Store(access_of(value, width, false)))
 }

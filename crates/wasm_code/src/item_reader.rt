@@ -6,10 +6,10 @@ ghost use Rattle.wasm_code.specs.Items.{item_from};
 use crate::faults::CodeFault;
 use crate::forms::Form;
 use crate::items::Item;
-use crate::labels::table;
+use crate::labels::branch_table;
 use crate::layouts::operator;
 use crate::value_types::block_type;
-use wasm_ops::{Cursor, Fault};
+use wasm_ops::{Cursor, Refusal};
 
 // The most blocks that are open at once.
 const MOST_BLOCKS: usize = 1000;
@@ -27,17 +27,14 @@ pub(crate) fn read_item(
     let byte = cursor.byte()?;
     match Form::of(byte) {
         Form::Operator(layout) => Ok(Item::Operator(operator(&layout, at, cursor)?)),
-        Form::Labels => Ok(Item::Operator(table(targets, cursor)?)),
+        Form::Labels => Ok(Item::Operator(branch_table(targets, cursor)?)),
         Form::Opens(opener) => {
             if MOST_BLOCKS <= depth {
-                return Err(CodeFault::Bytes(Fault {
-                    number: 10,
-                    place: at,
-                }));
+                return Err(CodeFault::Bytes(Refusal::TooDeep.at(at)));
             }
             Ok(Item::Opens(opener, block_type(cursor)?))
         }
-        Form::Turn => Ok(Item::Turn),
-        Form::Close => Ok(Item::Close),
+        Form::Else => Ok(Item::Else),
+        Form::End => Ok(Item::End),
     }
 }

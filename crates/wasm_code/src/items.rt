@@ -12,10 +12,10 @@ pub enum Item {
     Opens(Opener, Option<ValType>),
 
     /// `else`
-    Turn,
+    Else,
 
     /// `end`, of a block or of the body.
-    Close,
+    End,
 }
 
 /// An operator that opens a block.

@@ -1,8 +1,8 @@
 //! The flat form of a body, while its items are read.
 ghost use Rattle.std.specs.Prelude.{◌≡◌, ◌^◌, ◌<◌, [], length, IfOk, OnOk};
-ghost use Rattle.wasm_code.specs.Laying.{ArePlaced, IsPlaced, kinds_of, filled, first_part, opening, turning_of, standing_of, with_item};
+ghost use Rattle.wasm_code.specs.Laying.{ArePlaced, IsPlaced, kinds_of, filled, first_stage, opening, else_standing, standing_of, with_item};
 
-use crate::blocks::{OpenBlock, Part, Standing};
+use crate::blocks::{OpenBlock, Stage, Standing};
 use crate::items::{Item, Opener};
 use std::alloc::{AllocError, Global};
 use std::marker::Model;
@@ -63,8 +63,8 @@ impl Laying {
         match item {
             Item::Operator(op) => self.operator(op),
             Item::Opens(opener, result) => self.open(*opener, *result),
-            Item::Turn => self.turn(),
-            Item::Close => self.close(),
+            Item::Else => self.divide(),
+            Item::End => self.close(),
         }
     }
 
@@ -83,7 +83,7 @@ impl Laying {
         ensures laid { OnOk result (self.new ≡ with_item (Item.Opens opener value) self.old) }
     {
         let block = OpenBlock {
-            part: part_of(opener),
+            stage: stage_of(opener),
             result: value,
             at: self.ops.len() as u32,
         };
@@ -92,28 +92,28 @@ impl Laying {
         Ok(Standing::Inside)
     }
 
-    fn turn(&mut self) -> Result<Standing, AllocError>
+    fn divide(&mut self) -> Result<Standing, AllocError>
         requires few { length self.old.ops < 2 ^ 32 }
-        ensures stands { IfOk result (λ standing. standing ≡ standing_of Item.Turn (kinds_of self.old.blocks)) }
-        ensures laid { OnOk result (self.new ≡ with_item Item.Turn self.old) }
+        ensures stands { IfOk result (λ standing. standing ≡ standing_of Item.Else (kinds_of self.old.blocks)) }
+        ensures laid { OnOk result (self.new ≡ with_item Item.Else self.old) }
     {
         let Some(block) = self.blocks.pop() else {
             return Ok(Standing::Misplaced);
         };
-        let turned = OpenBlock {
-            part: Part::Else(self.ops.len() as u32),
+        let divided = OpenBlock {
+            stage: Stage::Else(self.ops.len() as u32),
             result: block.result,
             at: block.at,
         };
         self.ops.push(Op::Else { end: 0 })?;
-        self.blocks.push(turned)?;
-        Ok(turning(block.part))
+        self.blocks.push(divided)?;
+        Ok(else_standing(block.stage))
     }
 
     fn close(&mut self) -> Result<Standing, AllocError>
         requires few { length self.old.ops < 2 ^ 32 }
-        ensures stands { IfOk result (λ standing. standing ≡ standing_of Item.Close (kinds_of self.old.blocks)) }
-        ensures laid { OnOk result (self.new ≡ with_item Item.Close self.old) }
+        ensures stands { IfOk result (λ standing. standing ≡ standing_of Item.End (kinds_of self.old.blocks)) }
+        ensures laid { OnOk result (self.new ≡ with_item Item.End self.old) }
     {
         let end = self.ops.len() as u32;
         let Some(block) = self.blocks.pop() else {
@@ -126,13 +126,13 @@ impl Laying {
     }
 }
 
-fn part_of(opener: Opener) -> Part
-    ensures { result ≡ first_part opener }
+fn stage_of(opener: Opener) -> Stage
+    ensures { result ≡ first_stage opener }
 {
     match opener {
-        Opener::Block => Part::Block,
-        Opener::Loop => Part::Loop,
-        Opener::If => Part::Then,
+        Opener::Block => Stage::Block,
+        Opener::Loop => Stage::Loop,
+        Opener::If => Stage::Then,
     }
 }
 
@@ -157,39 +157,39 @@ fn opening_of(opener: Opener, value: Option<ValType>) -> Op
 }
 
 // Where an `else` stands that comes in this part of a block.
-fn turning(part: Part) -> Standing
-    ensures { result ≡ turning_of part }
+fn else_standing(stage: Stage) -> Standing
+    ensures { result ≡ else_standing stage }
 {
-    match part {
-        Part::Then => Standing::Inside,
-        Part::Block | Part::Loop | Part::Else(_) => Standing::Misplaced,
+    match stage {
+        Stage::Then => Standing::Inside,
+        Stage::Block | Stage::Loop | Stage::Else(_) => Standing::Misplaced,
     }
 }
 
 // Writes where a block ends into the operators that know it.
 fn fill(ops: &mut [Op], block: &OpenBlock, end: u32)
     requires placed { IsPlaced (length ops.old) block.now }
-    ensures { ops.new ≡ filled block.now.part block.now.result block.now.at end ops.old }
+    ensures { ops.new ≡ filled block.now.stage block.now.result block.now.at end ops.old }
 {
     let result = block.result;
     let at = block.at as usize;
-    match block.part {
-        Part::Block => ops[at] = Op::Block { result, end },
-        Part::Loop => ops[at] = Op::Loop { result, end },
-        Part::Then => {
+    match block.stage {
+        Stage::Block => ops[at] = Op::Block { result, end },
+        Stage::Loop => ops[at] = Op::Loop { result, end },
+        Stage::Then => {
             ops[at] = Op::If {
                 result,
                 other: None,
                 end,
             };
         }
-        Part::Else(turn) => {
+        Stage::Else(divide) => {
             ops[at] = Op::If {
                 result,
-                other: Some(turn),
+                other: Some(divide),
                 end,
             };
-            ops[turn as usize] = Op::Else { end };
+            ops[divide as usize] = Op::Else { end };
         }
     }
 }

@@ -6,7 +6,7 @@ ghost use Rattle.wasm_code.specs.Forms.{with_index};
 ghost use Rattle.wasm_code.specs.Layouts.{zero_from, index_from, address_from, layout_from};
 
 use crate::forms::{Indexed, Layout};
-use wasm_ops::{Access, Cursor, Fault, Op};
+use wasm_ops::{Access, Cursor, Fault, Op, Refusal};
 
 /// The operator whose byte stands at `at`, from what stands behind it.
 pub(crate) fn operator(layout: &Layout, at: u32, cursor: &mut Cursor<'_>) -> Result<Op, Fault>
@@ -18,17 +18,11 @@ pub(crate) fn operator(layout: &Layout, at: u32, cursor: &mut Cursor<'_>) -> Res
         Layout::Load(access) => load(access, cursor),
         Layout::Store(access) => store(access, cursor),
         Layout::Reserved(op) => reserved(op, cursor),
-        Layout::Word => word(cursor),
-        Layout::Long => long(cursor),
+        Layout::I32Const => word(cursor),
+        Layout::I64Const => long(cursor),
         Layout::IndirectCall => indirect_call(cursor),
-        Layout::Float => Err(Fault {
-            number: 5,
-            place: at,
-        }),
-        Layout::Unknown => Err(Fault {
-            number: 6,
-            place: at,
-        }),
+        Layout::Float => Err(Refusal::FloatOperator.at(at)),
+        Layout::Unknown => Err(Refusal::UnknownOperator.at(at)),
     }
 }
 
@@ -72,21 +66,18 @@ fn reserved(op: &Op, cursor: &mut Cursor<'_>) -> Result<Op, Fault>
     if byte == 0 {
         Ok(*op)
     } else {
-        Err(Fault {
-            number: 13,
-            place: at,
-        })
+        Err(Refusal::Reserved.at(at))
     }
 }
 
 fn word(cursor: &mut Cursor<'_>) -> Result<Op, Fault>
-    ensures { Tells (λ op. (op, cursor.new)) result (layout_from Layout.Word 0 cursor.old) }
+    ensures { Tells (λ op. (op, cursor.new)) result (layout_from Layout.I32Const 0 cursor.old) }
 {
     Ok(Op::ConstI32(cursor.s32_leb()?))
 }
 
 fn long(cursor: &mut Cursor<'_>) -> Result<Op, Fault>
-    ensures { Tells (λ op. (op, cursor.new)) result (layout_from Layout.Long 0 cursor.old) }
+    ensures { Tells (λ op. (op, cursor.new)) result (layout_from Layout.I64Const 0 cursor.old) }
 {
     Ok(Op::ConstI64(cursor.s64_leb()?))
 }

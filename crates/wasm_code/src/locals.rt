@@ -6,7 +6,7 @@ ghost use Rattle.wasm_code.specs.Locals.{group_from, groups_from, locals_from};
 use crate::faults::CodeFault;
 use crate::value_types::value_type;
 use std::alloc::Global;
-use wasm_ops::{Cursor, Fault, ValType};
+use wasm_ops::{Cursor, Refusal, ValType};
 
 // The most locals, all groups counted.
 const MOST_LOCALS: usize = 1024;
@@ -45,10 +45,7 @@ fn read_group(locals: &mut Vec<ValType>, cursor: &mut Cursor<'_>) -> Result<(), 
     let at = cursor.at();
     let count = cursor.u32_leb()?;
     if MOST_LOCALS < locals.len() + count as usize {
-        return Err(CodeFault::Bytes(Fault {
-            number: 11,
-            place: at,
-        }));
+        return Err(CodeFault::Bytes(Refusal::TooManyLocals.at(at)));
     }
     let value = value_type(cursor)?;
     locals.resize(locals.len() + count as usize, value)?;

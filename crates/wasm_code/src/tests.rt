@@ -25,7 +25,7 @@ fn expect_operator(rt: &impl Abort, alloc: Global, spelling: &[u8], op: Op) -> R
     Ok(())
 }
 
-fn moved(value: ValType, width: u32, signed: bool) -> Access {
+fn access_of(value: ValType, width: u8, signed: bool) -> Access {
     Access {
         value,
         width,
@@ -66,18 +66,18 @@ fn operators_without_a_block(rt: HostRuntime) -> Result<(), Fail> {
 #[test]
 fn loads_and_stores(rt: HostRuntime) -> Result<(), Fail> {
     let loads = [
-        (0x28, moved(ValType::I32, 4, false)),
-        (0x29, moved(ValType::I64, 8, false)),
-        (0x2C, moved(ValType::I32, 1, true)),
-        (0x2D, moved(ValType::I32, 1, false)),
-        (0x2E, moved(ValType::I32, 2, true)),
-        (0x2F, moved(ValType::I32, 2, false)),
-        (0x30, moved(ValType::I64, 1, true)),
-        (0x31, moved(ValType::I64, 1, false)),
-        (0x32, moved(ValType::I64, 2, true)),
-        (0x33, moved(ValType::I64, 2, false)),
-        (0x34, moved(ValType::I64, 4, true)),
-        (0x35, moved(ValType::I64, 4, false)),
+        (0x28, access_of(ValType::I32, 4, false)),
+        (0x29, access_of(ValType::I64, 8, false)),
+        (0x2C, access_of(ValType::I32, 1, true)),
+        (0x2D, access_of(ValType::I32, 1, false)),
+        (0x2E, access_of(ValType::I32, 2, true)),
+        (0x2F, access_of(ValType::I32, 2, false)),
+        (0x30, access_of(ValType::I64, 1, true)),
+        (0x31, access_of(ValType::I64, 1, false)),
+        (0x32, access_of(ValType::I64, 2, true)),
+        (0x33, access_of(ValType::I64, 2, false)),
+        (0x34, access_of(ValType::I64, 4, true)),
+        (0x35, access_of(ValType::I64, 4, false)),
     ];
     for (byte, access) in loads {
         let op = Op::Load {
@@ -88,13 +88,13 @@ fn loads_and_stores(rt: HostRuntime) -> Result<(), Fail> {
         expect_operator(&rt, rt.alloc(), &[byte, 0x02, 0x80, 0x08], op)?;
     }
     let stores = [
-        (0x36, moved(ValType::I32, 4, false)),
-        (0x37, moved(ValType::I64, 8, false)),
-        (0x3A, moved(ValType::I32, 1, false)),
-        (0x3B, moved(ValType::I32, 2, false)),
-        (0x3C, moved(ValType::I64, 1, false)),
-        (0x3D, moved(ValType::I64, 2, false)),
-        (0x3E, moved(ValType::I64, 4, false)),
+        (0x36, access_of(ValType::I32, 4, false)),
+        (0x37, access_of(ValType::I64, 8, false)),
+        (0x3A, access_of(ValType::I32, 1, false)),
+        (0x3B, access_of(ValType::I32, 2, false)),
+        (0x3C, access_of(ValType::I64, 1, false)),
+        (0x3D, access_of(ValType::I64, 2, false)),
+        (0x3E, access_of(ValType::I64, 4, false)),
     ];
     for (byte, access) in stores {
         let op = Op::Store {

@@ -1,10 +1,10 @@
 //! Value types and block types (WebAssembly Core 1.0, sections 5.3.1 and 5.4.1).
 ghost use Rattle.std.specs.Prelude.{◌≡◌};
 ghost use Rattle.wasm_code.specs.Faults.{Tells};
-ghost use Rattle.wasm_code.specs.Reading.{fault_at};
-ghost use Rattle.wasm_code.specs.Types.{type_of, result_of, no_type, type_from, block_type_from};
+ghost use Rattle.wasm_ops.specs.Refusals.{fault_at};
+ghost use Rattle.wasm_code.specs.Types.{type_of, block_type_of, no_type, type_from, block_type_from};
 
-use wasm_ops::{Cursor, Fault, ValType};
+use wasm_ops::{Cursor, Fault, Refusal, ValType};
 
 /// The value type that the next byte is (WebAssembly Core 1.0, section 5.3.1): `7F` for `i32`, `7E` for `i64`.
 ///
@@ -44,7 +44,7 @@ fn value_type_of(byte: u8) -> Option<ValType>
 }
 
 fn block_type_of(byte: u8) -> Option<Option<ValType>>
-    ensures { result ≡ result_of byte }
+    ensures { result ≡ block_type_of byte }
 {
     match byte {
         0x40 => Some(None),
@@ -58,9 +58,9 @@ fn block_type_of(byte: u8) -> Option<Option<ValType>>
 fn no_type_at(at: u32, byte: u8) -> Fault
     ensures { result ≡ fault_at (no_type byte) at }
 {
-    let number = match byte {
-        0x7D | 0x7C => 7,
-        _ => 8,
+    let refusal = match byte {
+        0x7D | 0x7C => Refusal::FloatType,
+        _ => Refusal::BadType,
     };
-    Fault { number, place: at }
+    refusal.at(at)
 }

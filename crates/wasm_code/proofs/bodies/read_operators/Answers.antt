@@ -23,13 +23,13 @@ items-preserved c =
 
 pub returns-in-Misplaced-clause-refused : goal.returns-in-Misplaced-clause-refused
 returns-in-Misplaced-clause-refused c =
-    rw c.at-at.ensures.place
+    rw (c.at.ensures, c.at-at.ensures.place)
     (turn_refused _ c.items.laying c.items.targets.items c.items.cursor c.in_ok-item.item c.read_item.new.targets.items c.read_item.new.cursor
     c.items.invariant (rw c.depth.ensures at c.in_ok-item.ensures) (sym c.in_ok-take.ensures.stands ∙ c.in-Misplaced.is))
 
 pub returns-then-not-is_at_end-clause-refused : goal.returns-then-not-is_at_end-clause-refused
 returns-then-not-is_at_end-clause-refused c =
-    rw c.at.ensures.place
+    rw (c.at-then-not-is_at_end-2.ensures, c.at-then-not-is_at_end.ensures.place)
     (rest_refused _ c.items.laying c.items.targets.items c.items.cursor c.in_ok-item.item c.read_item.new.targets.items c.read_item.new.cursor
     c.items.invariant (rw c.depth.ensures at c.in_ok-item.ensures) (sym c.in_ok-take.ensures.stands ∙ c.in-Last.is)
     (λ none. let ends = c.is_at_end.ensures.1 none in let bad : ⊥ = cc in bad))

@@ -9,4 +9,4 @@ invariant_of-self-in_err-push-2 c = rw (c.in_err-push-2.ensures.items, c.in_ok-p
 pub invariant_of-self-2 : goal.invariant_of-self-2
 invariant_of-self-2 c =
     rw (c.in_ok-push-2.ensures.items, c.in_ok-push.ensures.items)
-    (placed_open c.self.inside.ops.items _ _ c.self.inside.blocks.items (omega arith, rw c.part_of.ensures (first_placed _ _)) c.self.invariant)
+    (placed_open c.self.inside.ops.items _ _ c.self.inside.blocks.items (omega arith, rw c.stage_of.ensures (first_placed _ _)) c.self.invariant)

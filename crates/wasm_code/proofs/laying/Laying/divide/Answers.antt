@@ -1,7 +1,7 @@
 -- The place of the `else` is one of the operators.
 use Rattle.std.proofs.Common.{arith}
 use Rattle.wasm_code.proofs.PlacedLaws.{placed_open, placed_pop}
-use Rattle.wasm_code.proofs.laying.Laying.turn.Goals as goal
+use Rattle.wasm_code.proofs.laying.Laying.divide.Goals as goal
 
 pub invariant_of-self-2 : goal.invariant_of-self-2
 invariant_of-self-2 c =

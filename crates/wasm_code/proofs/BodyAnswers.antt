@@ -2,6 +2,7 @@
 use Rattle.std.proofs.Common.{◌≡◌, inl, inr, ℕ, List, [], ◌∷◌, ◌++◌, take, drop, length, Result, Ok, Err, IfOk, IfErr, refl, ap, ◌∙◌, subst, ◌-◌, ◌≤◌, arith}
 use Rattle.std.proofs.lemmas.List.{take_all}
 use Rattle.wasm_ops.specs.declared.faults.Fault.{Fault}
+use Rattle.wasm_ops.specs.declared.faults.Refusal.TheVariants.{CutShort}
 use Rattle.wasm_ops.specs.declared.modules.Body.{Body}
 use Rattle.wasm_ops.specs.declared.operators.Op.{Op}
 use Rattle.wasm_ops.specs.declared.operators.Op.TheVariants as op
@@ -94,8 +95,8 @@ fault_given bytes (Err NoMemory) found refused fault refuses = tt
 -- The cursor over all bytes.
 
 pub begun
-    : (bytes : List ℕ) (cursor : Input) (len : ℕ) → cursor.at ≡ 0 → cursor.left ≡ take (len - 0) (drop 0 bytes) → length bytes ≤ len
+    : (bytes : List ℕ) (cursor : Input) (len : ℕ) → cursor.at ≡ 0 → cursor.left ≡ take (len - 0) (drop 0 bytes) → cursor.cut ≡ CutShort → length bytes ≤ len
     → cursor ≡ beginning bytes
-begun bytes cursor len at left all =
+begun bytes cursor len at left cut all =
     let whole : take (len - 0) bytes ≡ bytes = take_all (len - 0) bytes (omega arith) in
-    same_input cursor (beginning bytes) at (left ∙ whole)
+    same_input cursor (beginning bytes) at (left ∙ whole) cut

@@ -2,6 +2,7 @@
 use Rattle.std.proofs.Common.{◌≡◌, ◌⊎◌, inl, inr, ℕ, ◌+◌, ◌<◌, ◌≤◌, List, [], ◌∷◌, Ok, Err, refl, ap, sym, ◌∙◌}
 use Rattle.std.proofs.lemmas.Bool.{cases_lt, lt-ltb, le-ltb}
 use Rattle.wasm_ops.specs.declared.faults.Fault.{Fault}
+use Rattle.wasm_ops.specs.declared.faults.Refusal.{Refusal}
 use Rattle.wasm_ops.specs.declared.numbers.Sign.{Sign}
 use Rattle.wasm_ops.specs.Input.{Input, cut_short, byte_of, byte_from}
 use Rattle.wasm_ops.specs.NumberInput.{ReadsNumber, RefusesNumber, number_from}
@@ -168,36 +169,40 @@ fails_decides over =
 
 -- Bytes and numbers.
 
-byte_at : (at : ℕ) (left : List ℕ) → (let here : Input = record { at = at; left = left } in Decides ℕ (byte_of at left) (ReadsByte here) (LacksByte here))
-byte_at at [] =
+byte_at
+    : (at : ℕ) (left : List ℕ) (cut : Refusal)
+    → (let here : Input = record { at = at; left = left; cut = cut } in Decides ℕ (byte_of at left cut) (ReadsByte here) (LacksByte here))
+byte_at at [] cut =
     record {
       found = λ x after e. let bad : ⊥ = cc in absurd bad;
       only = λ x after reads. let next = reads.next in let bad : ⊥ = cc in absurd bad;
       refused = λ fault e. record { ended = refl; told = cc };
-      only_refused = λ fault lacks. fault_same (cut_short (record { at = at; left = [] })) fault (sym lacks.told);
+      only_refused = λ fault lacks. fault_same (cut_short (record { at = at; left = []; cut = cut })) fault (sym lacks.told);
     }
-byte_at at (byte ∷ left) =
-    let there : Input = record { at = at + 1; left = left } in
+byte_at at (byte ∷ left) cut =
+    let there : Input = record { at = at + 1; left = left; cut = cut } in
     record {
       found = λ x after e.
           let parts = read_parts byte x there after e in
           let lefts = ap (λ (z : Input). z.left) parts.1 in
           let ats = ap (λ (z : Input). z.at) parts.1 in
+          let cuts = ap (λ (z : Input). z.cut) parts.1 in
           let same = parts.0 in
-          record { next = cc; behind = sym ats };
+          record { next = cc; behind = sym ats; same_cut = sym cuts };
       only = λ x after reads.
           let next = reads.next in
           let value : byte ≡ x = cc in
           let lefts : left ≡ after.left = cc in
-          let access_of : ℕ → Input = λ n. record { at = n; left = left } in
-          let rest : List ℕ → Input = λ xs. record { at = after.at; left = xs } in
-          read_same byte x there after value (ap access_of (sym reads.behind) ∙ ap rest lefts);
+          let moved : ℕ → Input = λ n. record { at = n; left = left; cut = cut } in
+          let rest : List ℕ → Input = λ xs. record { at = after.at; left = xs; cut = cut } in
+          let with_cut : Refusal → Input = λ why. record { at = after.at; left = after.left; cut = why } in
+          read_same byte x there after value (ap moved (sym reads.behind) ∙ ap rest lefts ∙ ap with_cut (sym reads.same_cut));
       refused = λ fault e. let bad : ⊥ = cc in absurd bad;
       only_refused = λ fault lacks. let ended = lacks.ended in let bad : ⊥ = cc in absurd bad;
     }
 
 pub byte_decides : (before : Input) → Decides ℕ (byte_from before) (ReadsByte before) (LacksByte before)
-byte_decides before = byte_at before.at before.left
+byte_decides before = byte_at before.at before.left before.cut
 
 number_only
     : (sign : Sign) (bits : ℕ) (before : Input) (x : ℕ) (after : Input) (read : Read ℕ) → 0 < bits → number_from sign bits before ≡ read

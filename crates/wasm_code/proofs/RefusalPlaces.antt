@@ -1,6 +1,7 @@
 -- The place of a refusal lies within the bytes or at their end.
 use Rattle.std.proofs.Common.{◌≡◌, inl, inr, ℕ, suc, zero, ◌+◌, ◌<◌, ◌≤◌, Bool, true, false, ◌==◌, nat_lt, if◌then◌else◌, List, [], ◌∷◌, ◌++◌, length, Option, Some, None, Ok, Err, refl, ap, sym, ◌∙◌, subst, arith}
 use Rattle.wasm_ops.specs.declared.faults.Fault.{Fault}
+use Rattle.wasm_ops.specs.declared.faults.Refusal.{Refusal}
 use Rattle.wasm_ops.specs.declared.numbers.LebFault.{LebFault}
 use Rattle.wasm_ops.specs.declared.numbers.LebFault.TheVariants.{CutShort, TooLong, SpareBits}
 use Rattle.wasm_ops.specs.declared.numbers.Sign.{Sign}
@@ -58,12 +59,12 @@ within_stays {A} end limit number over read placed stays =
 
 -- Bytes and numbers.
 
-byte_at : (at : ℕ) (left : List ℕ) → Stays (at + length left) (byte_of at left)
-byte_at at [] = omega arith
-byte_at at (byte ∷ left) = omega arith
+byte_at : (at : ℕ) (left : List ℕ) (cut : Refusal) → Stays (at + length left) (byte_of at left cut)
+byte_at at [] cut = omega arith
+byte_at at (byte ∷ left) cut = omega arith
 
 byte_stays : (end : ℕ) (before : Input) → end_of before ≡ end → Stays end (byte_from before)
-byte_stays end before e = let P : ℕ → Type 0 = λ n. Stays n (byte_from before) in subst P e (byte_at before.at before.left)
+byte_stays end before e = let P : ℕ → Type 0 = λ n. Stays n (byte_from before) in subst P e (byte_at before.at before.left before.cut)
 
 why_placed : (why : LebFault) (before : Input) → let fault : Fault = fault_of why before in fault.place ≤ end_of before
 why_placed CutShort before = omega arith

@@ -1,6 +1,7 @@
 -- What bytes spell a body, and with which number and at which place bytes are refused as one (WebAssembly Core 1.0, sections 5.4 and 5.5.13).
 use Rattle.std.specs.Prelude.{◌≡◌, ◌⊎◌, ℕ, List, [], ◌∷◌, ◌++◌, length, Option, Some, None}
 use Rattle.wasm_ops.specs.declared.faults.Fault.{Fault}
+use Rattle.wasm_ops.specs.declared.faults.Refusal.TheVariants.{CutShort}
 use Rattle.wasm_ops.specs.declared.modules.Body.{Body}
 use Rattle.wasm_ops.specs.declared.types.ValType.{ValType}
 use Rattle.wasm_ops.specs.Input.{Input}
@@ -54,7 +55,7 @@ AreCut (passed ∷ items) here there = (next : Place) × Passes here passed next
 
 -- the place before all bytes, and the one before the first item
 abbrev pub beginning : List ℕ → Input
-beginning bytes = record { at = 0; left = bytes }
+beginning bytes = record { at = 0; left = bytes; cut = CutShort }
 
 abbrev pub first_place : Input → Place
 first_place start = record { blocks = []; targets = []; ahead = start }

@@ -25,6 +25,7 @@ within limit number fault read = if nat_lt limit number then Err fault else read
 pub record ReadsByte (before : Input) (byte : ℕ) (after : Input) : Type 0 where
   pub next : before.left ≡ byte ∷ after.left
   pub behind : after.at ≡ before.at + 1
+  pub same_cut : after.cut ≡ before.cut
 
 -- no byte is left
 pub record LacksByte (before : Input) (fault : Fault) : Type 0 where

@@ -1,5 +1,5 @@
 //! The reader of a body (WebAssembly Core 1.0, section 5.5.13).
-ghost use Rattle.std.specs.Prelude.{◌≤◌, ◌^◌, length, IfOk, IfErr};
+ghost use Rattle.std.specs.Prelude.{◌≤◌, ◌<◌, ◌^◌, length, IfOk, IfErr};
 ghost use Rattle.wasm_ops.specs.declared.faults.Fault.{Fault as FaultValue};
 ghost use Rattle.wasm_ops.specs.declared.modules.Body.{Body as BodyValue};
 ghost use Rattle.wasm_code.specs.Bodies.{SpellsBody, RefusesBody};
@@ -20,7 +20,7 @@ use wasm_ops::{Body, Cursor, Items, Op, Refusal};
 /// Else the first refusal in reading order is answered, with its place counted from the first byte. The place of a refusal is at most the number of bytes.
 /// It is one pass over the bytes, which takes memory for the answer and for the blocks that are open.
 pub fn read_body(alloc: Global, bytes: &[u8]) -> Result<Body, CodeFault>
-    requires size { length bytes.now ≤ 2 ^ 22 }
+    requires size { length bytes.now < 2 ^ 32 }
     ensures found { IfOk result (λ body. SpellsBody bytes.now body) }
     ensures refused { IfErr result (λ fault. IsAmong fault (RefusesBody bytes.now)) }
     ensures placed { IfErr result (λ fault. IsAmong fault (λ f. f.place ≤ length bytes.now)) }
@@ -34,7 +34,7 @@ pub fn read_body(alloc: Global, bytes: &[u8]) -> Result<Body, CodeFault>
 
 // The locals, and then the operators.
 fn read_whole(alloc: Global, bytes: &[u8]) -> Result<Body, CodeFault>
-    requires size { length bytes.now ≤ 2 ^ 22 }
+    requires size { length bytes.now < 2 ^ 32 }
     ensures found { IfOk result (λ body. SpellsBody bytes.now body) }
     ensures refused { IfErr result (λ fault. IsAmong fault (RefusesBody bytes.now)) }
 {
@@ -50,7 +50,7 @@ fn read_whole(alloc: Global, bytes: &[u8]) -> Result<Body, CodeFault>
 
 // The operators and the labels of all `br_table`s, up to the end of the window.
 fn read_operators(alloc: Global, cursor: &mut Cursor<'_>) -> Result<(Vec<Op>, Vec<u32>), CodeFault>
-    requires size { length cursor.old.left ≤ 2 ^ 22 }
+    requires size { length cursor.old.left < 2 ^ 32 }
     ensures found { IfOk result (λ read. SpellsOperators cursor.old read.0.items read.1.items) }
     ensures refused { IfErr result (λ fault. IsAmong fault (RefusesOperators cursor.old)) }
 {

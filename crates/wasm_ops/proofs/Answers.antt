@@ -1,5 +1,6 @@
 -- What a call on a cursor owes, on both sides, and what follows from it of the definitions.
-use Rattle.std.proofs.Common.{◌≡◌, ◌⊎◌, inl, inr, ◌<◌, length, Result, Ok, Err, IfOk, IfErr, OnOk, sym, ◌∙◌}
+use Rattle.std.proofs.Common.{◌≡◌, ◌⊎◌, inl, inr, ◌<◌, length, Result, Ok, Err, IfOk, IfErr, OnOk, ap, sym, ◌∙◌}
+use Rattle.std.specs.Result.{result_map_both}
 use Rattle.wasm_ops.specs.declared.faults.Fault.{Fault}
 use Rattle.wasm_ops.specs.Input.{Input, IsDecided}
 
@@ -39,3 +40,24 @@ decided A Reads Refuses result before after answer =
           (same_value result x y first.0 second.0, sym first.1 ∙ second.1);
       one_fault = λ f g refuses also. same_fault result f g (answer.only_refused f refuses) (answer.only_refused g also);
     }
+
+-- What holds of an answer as it is seen holds of the answer.
+
+abbrev pub Seen : {A B : Type 0} → (A → B) → Result A Fault → Result B Fault
+Seen view result = result_map_both view (λ fault. fault) result
+
+pub if_ok_seen : {A B : Type 0} (result : Result A Fault) (view : A → B) (P : B → Type 0) → IfOk (Seen view result) P → IfOk result (λ x. P (view x))
+if_ok_seen (Ok x) view P holds = holds
+if_ok_seen (Err fault) view P holds = tt
+
+pub if_err_seen : {A B : Type 0} (result : Result A Fault) (view : A → B) (P : Fault → Type 0) → IfErr (Seen view result) P → IfErr result P
+if_err_seen (Ok x) view P holds = tt
+if_err_seen (Err fault) view P holds = holds
+
+pub on_ok_seen : {A B : Type 0} (result : Result A Fault) (view : A → B) (P : Type 0) → OnOk (Seen view result) P → OnOk result P
+on_ok_seen (Ok x) view P holds = holds
+on_ok_seen (Err fault) view P holds = tt
+
+pub err_seen : {A B : Type 0} (result : Result A Fault) (view : A → B) (fault : Fault) → Seen view result ≡ Err fault → result ≡ Err fault
+err_seen (Ok x) view fault e = let bad : ⊥ = cc in absurd bad
+err_seen {A} (Err other) view fault e = let same : other ≡ fault = cc in ap (λ (f : Fault). let result : Result A Fault = Err f in result) same

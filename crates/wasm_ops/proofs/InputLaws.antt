@@ -3,7 +3,9 @@ use Rattle.std.proofs.Common.{◌≡◌, inl, inr, ℕ, ◌-◌, ◌<◌, List, 
 use Rattle.wasm_ops.specs.declared.faults.Fault.{Fault}
 use Rattle.wasm_ops.specs.declared.numbers.Sign.{Sign}
 use Rattle.wasm_ops.specs.declared.numbers.LebFault.{LebFault}
-use Rattle.wasm_ops.specs.Input.{Input, Takes, IsDecided}
+use Rattle.wasm_ops.specs.declared.faults.Refusal.{Refusal}
+use Rattle.wasm_ops.specs.Refusals.{fault_at}
+use Rattle.wasm_ops.specs.Input.{Input, Takes, IsDecided, cut_short, end_of}
 use Rattle.wasm_ops.specs.Numbers.{SpellsNumber, number_at}
 use Rattle.wasm_ops.specs.NumberInput.{ReadsNumber, RefusesNumber, fault_of, behind, placed, number_from}
 use Rattle.wasm_ops.proofs.Answers.{IsAnswer, decided}
@@ -15,11 +17,16 @@ spelt-shorter sign bits [] number rest spelt = absurd spelt
 spelt-shorter sign bits (byte ∷ bytes) number rest (inl ends) = let same = ap (λ (xs : List ℕ). length xs) ends.1 in omega arith
 spelt-shorter sign bits (byte ∷ bytes) number rest (inr goes) = let shorter = spelt-shorter sign (bits - 7) bytes goes.0 rest goes.4 in omega arith
 
-pub same_input : (a b : Input) → a.at ≡ b.at → a.left ≡ b.left → a ≡ b
-same_input a b at left =
-    let at_place : ℕ → Input = λ n. record { at = n; left = a.left } in
-    let with_left : List ℕ → Input = λ xs. record { at = b.at; left = xs } in
-    ap at_place at ∙ ap with_left left
+pub same_input : (a b : Input) → a.at ≡ b.at → a.left ≡ b.left → a.cut ≡ b.cut → a ≡ b
+same_input a b at left cut =
+    let at_place : ℕ → Input = λ n. record { at = n; left = a.left; cut = a.cut } in
+    let with_left : List ℕ → Input = λ xs. record { at = b.at; left = xs; cut = a.cut } in
+    let with_cut : Refusal → Input = λ why. record { at = b.at; left = b.left; cut = why } in
+    ap at_place at ∙ ap with_left left ∙ ap with_cut cut
+
+-- one window ends where another one does, and is told alike
+pub same_cut_short : (a b : Input) → end_of a ≡ end_of b → a.cut ≡ b.cut → cut_short a ≡ cut_short b
+same_cut_short a b end cut = ap (λ (place : ℕ). fault_at a.cut place) end ∙ ap (λ (why : Refusal). fault_at why (end_of b)) cut
 
 -- both sides of a number at a cursor
 abbrev pub IsNumberAnswer : Sign → (bits : ℕ) → Result ℕ Fault → (before after : Input) → Type 0
@@ -32,14 +39,14 @@ read_answer sign bits before read some e =
     let spelt = number_spelt sign bits before.left read.0 read.1 e in
     let shorter = spelt-shorter sign bits before.left read.0 read.1 spelt in
     record {
-      found = record { spelt = spelt; same_end = omega arith };
+      found = record { spelt = spelt; same_end = omega arith; same_cut = refl };
       shorter = shorter;
       only = λ number there reads.
           let there_read = spelt_number sign bits before.left number there.left reads.spelt in
           let parts = read_parts (number_at sign bits before.left) read (number, there.left) e there_read in
           let same_end = reads.same_end in
           let lengths = ap (λ (xs : List ℕ). length xs) parts.1 in
-          (ap (λ (n : ℕ). let result : Result ℕ Fault = Ok n in result) parts.0, same_input (behind before read.1) there (omega arith) parts.1);
+          (ap (λ (n : ℕ). let result : Result ℕ Fault = Ok n in result) parts.0, same_input (behind before read.1) there (omega arith) parts.1 (sym reads.same_cut));
       refused = tt;
       only_refused = λ fault refuses.
           let fails = refused_number sign bits before.left refuses.why some refuses.refused in

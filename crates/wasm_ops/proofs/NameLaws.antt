@@ -1,5 +1,5 @@
--- What is taken from a cursor by the reader of names is what the grammar has there.
-use Rattle.std.proofs.Common.{◌≡◌, ◌⊎◌, inl, inr, ℕ, ◌+◌, ◌<◌, ◌≤◌, Bool, true, false, List, ◌++◌, length, take, drop, if◌then◌else◌, Result, Ok, Err, refl, ap, sym, ◌∙◌, subst, arith, length-append, length-drop}
+-- What is taken from a cursor by the readers of names is what the grammar has there.
+use Rattle.std.proofs.Common.{◌≡◌, ◌⊎◌, inl, inr, ℕ, ◌+◌, ◌-◌, ◌<◌, ◌≤◌, Bool, true, false, List, ◌++◌, length, take, drop, if◌then◌else◌, Option, Some, None, Result, Ok, Err, refl, ap, sym, ◌∙◌, subst, arith, length-append, length-drop}
 use Rattle.std.proofs.lemmas.Bool.{cases_lt, le-leb, lt-leb}
 use Rattle.std.proofs.lemmas.List.{take-append-drop, length-take-le}
 use Rattle.std.proofs.Math.Seq.{take-append_seam, drop-append_seam}
@@ -9,18 +9,18 @@ use Rattle.wasm_ops.specs.declared.faults.Fault.{Fault}
 use Rattle.wasm_ops.specs.declared.numbers.Sign.TheVariants.{Unsigned}
 use Rattle.wasm_ops.specs.Input.{Input, end_of, cut_short, Takes, bytes_from, IsDecided}
 use Rattle.wasm_ops.specs.NumberInput.{ReadsNumber, RefusesNumber, number_from}
-use Rattle.wasm_ops.specs.NameInput.{ReadsPair, RefusesName, not_utf8, text_from, counted_from, name_from}
+use Rattle.wasm_ops.specs.NameInput.{ReadsText, ReadsName, ReadsPair, RefusesName, not_utf8, known_text, text_behind, counted_from, text_from, place_of, placed_name, name_from}
 use Rattle.wasm_ops.proofs.Answers.{IsAnswer, decided}
-use Rattle.wasm_ops.proofs.InputLaws.{IsNumberAnswer, taken, same_input}
+use Rattle.wasm_ops.proofs.InputLaws.{IsNumberAnswer, taken, same_input, same_cut_short}
 
--- both sides of a name at a cursor
-abbrev pub IsNameAnswer : Result (ℕ × ℕ) Fault → (before after : Input) → Type 0
-IsNameAnswer result before after = IsAnswer (ℕ × ℕ) (ReadsPair before) (RefusesName before) result before after
+-- both sides of a name's text at a cursor
+abbrev pub IsTextAnswer : Result (List ℕ) Fault → (before after : Input) → Type 0
+IsTextAnswer result before after = IsAnswer (List ℕ) (ReadsText before) (RefusesName before) result before after
 
 -- the same of what the definition says
-abbrev IsNameOf : Result ((ℕ × ℕ) × Input) Fault → Input → Type 0
-IsNameOf (Ok read) before = IsNameAnswer (Ok read.0) before read.1
-IsNameOf (Err fault) before = IsNameAnswer (Err fault) before before
+abbrev IsTextOf : Result (List ℕ × Input) Fault → Input → Type 0
+IsTextOf (Ok read) before = IsTextAnswer (Ok read.0) before read.1
+IsTextOf (Err fault) before = IsTextAnswer (Err fault) before before
 
 -- The length: it is the only one.
 
@@ -40,20 +40,20 @@ never_counted
     → (m : ℕ) (there : Input) → ReadsNumber Unsigned 32 before m there → ⊥
 never_counted before fault answer m there reads = let same = answer.only m there reads in let equal = same.0 in cc
 
--- a name that is read, and one that is refused
-abbrev name_read : ℕ × ℕ → Result (ℕ × ℕ) Fault
-name_read name = Ok name
+-- a text that is read, and one that is refused
+abbrev text_read : List ℕ → Result (List ℕ) Fault
+text_read text = Ok text
 
-abbrev refusal : Fault → Result (ℕ × ℕ) Fault
+abbrev refusal : Fault → Result (List ℕ) Fault
 refusal fault = Err fault
 
-uncounted_answer : (before : Input) (fault : Fault) → number_from Unsigned 32 before ≡ Err fault → IsNameAnswer (Err fault) before before
+uncounted_answer : (before : Input) (fault : Fault) → number_from Unsigned 32 before ≡ Err fault → IsTextAnswer (Err fault) before before
 uncounted_answer before fault e =
     let answer = uncounted before fault e in
     record {
       found = tt;
       shorter = tt;
-      only = λ name there reads. absurd (never_counted before fault answer name.1 reads.start reads.counted);
+      only = λ text there reads. absurd (never_counted before fault answer (length text) reads.start reads.counted);
       refused = inl answer.refused;
       only_refused = λ other refuses. elim refuses [
         | inl number ↦ let same = answer.only_refused other number in let equal : fault ≡ other = cc in ap refusal equal
@@ -83,16 +83,16 @@ text_there start text rest len spelt whole = omega (arith, ap (λ (xs : List ℕ
 
 cut_answer
     : (before : Input) (len : ℕ) (start : Input) → IsNumberAnswer Unsigned 32 (Ok len) before start
-    → length start.left < len → IsNameAnswer (Err (cut_short start)) before before
+    → length start.left < len → IsTextAnswer (Err (cut_short start)) before before
 cut_answer before len start answer short =
-    let same_end : end_of start ≡ end_of before = answer.found.same_end in
-    let same_place : cut_short start ≡ cut_short before = ap (λ (place : ℕ). let fault : Fault = record { number = 1; place = place } in fault) same_end in
+    let same_place : cut_short start ≡ cut_short before = same_cut_short start before answer.found.same_end answer.found.same_cut in
     record {
       found = tt;
       shorter = tt;
-      only = λ name there reads.
-          let same = same_count before len start answer name.1 reads.start reads.counted in
-          let room = text_there reads.start reads.text there.left name.1 reads.spelt reads.whole in
+      only = λ text there reads.
+          let same = same_count before len start answer (length text) reads.start reads.counted in
+          let room = text_there reads.start text there.left (length text) reads.spelt refl in
+          let count = same.0 in
           let lengths = ap (λ (input : Input). length input.left) same.1 in
           let bad : ⊥ = omega arith in absurd bad;
       refused = inr (inl record { len = len; start = start; counted = answer.found; short = short; told = same_place });
@@ -109,11 +109,6 @@ cut_answer before len start answer short =
       ];
     }
 
--- two names with the same place and length
-name_same : (first len first' len' : ℕ) → first ≡ first' → len ≡ len' → name_read (first, len) ≡ Ok (first', len')
-name_same first len first' len' at whole =
-    ap (λ (n : ℕ). name_read (n, len)) at ∙ ap (λ (n : ℕ). name_read (first', n)) whole
-
 -- what a text behind the length is
 same_text
     : (len : ℕ) (start : Input) (m : ℕ) (there : Input) (text rest : List ℕ) → (len ≡ m) × (start ≡ there)
@@ -124,35 +119,33 @@ same_text len start m there text rest same spelt whole =
     split_same start.left text rest len (lefts ∙ spelt) (whole ∙ sym count)
 
 abbrev behind_text : ℕ → Input → Input
-behind_text len start = record { at = start.at + len; left = drop len start.left }
+behind_text len start = record { at = start.at + len; left = drop len start.left; cut = start.cut }
 
 text_answer
     : (before : Input) (len : ℕ) (start : Input) → IsNumberAnswer Unsigned 32 (Ok len) before start
-    → len ≤ length start.left → is_utf8 (take len start.left) ≡ true → IsNameAnswer (Ok (start.at, len)) before (behind_text len start)
+    → len ≤ length start.left → is_utf8 (take len start.left) ≡ true → IsTextAnswer (Ok (take len start.left)) before (behind_text len start)
 text_answer before len start answer room utf8 =
     let same_end : end_of start ≡ end_of before = answer.found.same_end in
     let fewer : length start.left < length before.left = answer.shorter in
     let left = length-drop len start.left in
+    let whole = length-take-le len start.left room in
+    let Counted : ℕ → Type 0 = λ n. ReadsNumber Unsigned 32 before n start in
     record {
       found = record {
         start = start;
-        text = take len start.left;
-        counted = answer.found;
-        placed = refl;
+        counted = subst Counted (sym whole) answer.found;
         spelt = sym (take-append-drop len start.left);
-        whole = length-take-le len start.left room;
         utf8 = IsUtf8-from_is_utf8 (take len start.left) utf8;
         same_end = omega arith;
+        same_cut = answer.found.same_cut;
       };
       shorter = omega arith;
-      only = λ name there reads.
-          let same = same_count before len start answer name.1 reads.start reads.counted in
-          let parts = same_text len start name.1 reads.start reads.text there.left same reads.spelt reads.whole in
-          let starts : start.at ≡ name.0 = ap (λ (input : Input). input.at) same.1 ∙ sym reads.placed in
-          let count = same.0 in
+      only = λ text there reads.
+          let same = same_count before len start answer (length text) reads.start reads.counted in
+          let parts = same_text len start (length text) reads.start text there.left same reads.spelt refl in
           let ends = reads.same_end in
           let lengths = ap (λ (xs : List ℕ). length xs) parts.1 in
-          (name_same start.at len name.0 name.1 starts count, same_input (behind_text len start) there (omega arith) parts.1);
+          (ap text_read parts.0, same_input (behind_text len start) there (omega arith) parts.1 (answer.found.same_cut ∙ sym reads.same_cut));
       refused = tt;
       only_refused = λ other refuses. elim refuses [
         | inl number ↦ absurd (number_stands before len start answer other number)
@@ -172,15 +165,15 @@ text_answer before len start answer room utf8 =
 
 spoilt_answer
     : (before : Input) (len : ℕ) (start : Input) → IsNumberAnswer Unsigned 32 (Ok len) before start
-    → len ≤ length start.left → is_utf8 (take len start.left) ≡ false → IsNameAnswer (Err (not_utf8 start)) before before
+    → len ≤ length start.left → is_utf8 (take len start.left) ≡ false → IsTextAnswer (Err (not_utf8 start)) before before
 spoilt_answer before len start answer room spoilt =
     let no_text : IsUtf8 (take len start.left) → ⊥ = λ utf8. let passes = is_utf8-from_IsUtf8 (take len start.left) utf8 in cc in
     record {
       found = tt;
       shorter = tt;
-      only = λ name there reads.
-          let same = same_count before len start answer name.1 reads.start reads.counted in
-          let parts = same_text len start name.1 reads.start reads.text there.left same reads.spelt reads.whole in
+      only = λ text there reads.
+          let same = same_count before len start answer (length text) reads.start reads.counted in
+          let parts = same_text len start (length text) reads.start text there.left same reads.spelt refl in
           absurd (no_text (subst IsUtf8 (sym parts.0) reads.utf8));
       refused = inr (inr record {
         len = len;
@@ -210,28 +203,110 @@ spoilt_answer before len start answer room spoilt =
 
 -- All cases.
 
-name_at_text
+text_at_bytes
     : (before : Input) (len : ℕ) (start : Input) → IsNumberAnswer Unsigned 32 (Ok len) before start → len ≤ length start.left
     → (passes : Bool) → is_utf8 (take len start.left) ≡ passes
-    → IsNameOf (if passes then Ok ((start.at, len), behind_text len start) else Err (not_utf8 start)) before
-name_at_text before len start answer room true e = text_answer before len start answer room e
-name_at_text before len start answer room false e = spoilt_answer before len start answer room e
+    → IsTextOf (known_text start (if passes then Some (take len start.left) else None) (behind_text len start)) before
+text_at_bytes before len start answer room true e = text_answer before len start answer room e
+text_at_bytes before len start answer room false e = spoilt_answer before len start answer room e
 
-name_at_start
+text_at_start
     : (before : Input) (len : ℕ) (start : Input) → IsNumberAnswer Unsigned 32 (Ok len) before start
-    → (length start.left < len) ⊎ (len ≤ length start.left) → IsNameOf (text_from len start (bytes_from len start)) before
-name_at_start before len start answer (inl short) = rw (lt-leb len (length start.left) short) (cut_answer before len start answer short)
-name_at_start before len start answer (inr room) =
-    rw (le-leb len (length start.left) room) (name_at_text before len start answer room (is_utf8 (take len start.left)) refl)
+    → (length start.left < len) ⊎ (len ≤ length start.left) → IsTextOf (text_behind start (bytes_from len start)) before
+text_at_start before len start answer (inl short) = rw (lt-leb len (length start.left) short) (cut_answer before len start answer short)
+text_at_start before len start answer (inr room) =
+    rw (le-leb len (length start.left) room) (text_at_bytes before len start answer room (is_utf8 (take len start.left)) refl)
 
-name_at_number
-    : (before : Input) (counting : Result (ℕ × Input) Fault) → number_from Unsigned 32 before ≡ counting → IsNameOf (counted_from counting) before
-name_at_number before (Err fault) e = uncounted_answer before fault e
-name_at_number before (Ok read) e =
-    name_at_start before read.0 read.1 (counted before read.0 read.1 e) (cases_lt (length read.1.left) read.0)
+text_at_number
+    : (before : Input) (counting : Result (ℕ × Input) Fault) → number_from Unsigned 32 before ≡ counting → IsTextOf (counted_from counting) before
+text_at_number before (Err fault) e = uncounted_answer before fault e
+text_at_number before (Ok read) e =
+    text_at_start before read.0 read.1 (counted before read.0 read.1 e) (cases_lt (length read.1.left) read.0)
+
+pub text_stands : (before : Input) → IsTextOf (text_from before) before
+text_stands before = text_at_number before (number_from Unsigned 32 before) refl
+
+pub text_taken
+    : (result : Result (List ℕ) Fault) (before after : Input) → Takes (text_from before) result before after → IsTextAnswer result before after
+text_taken (Ok text) before after takes =
+    let P : Result (List ℕ × Input) Fault → Type 0 = λ taken. IsTextOf taken before in subst P takes (text_stands before)
+text_taken (Err fault) before after takes =
+    let P : Result (List ℕ × Input) Fault → Type 0 = λ taken. IsTextOf taken before in
+    let Q : Input → Type 0 = IsTextAnswer (Err fault) before in
+    subst Q (sym takes.1) (subst P takes.0 (text_stands before))
+
+-- each text of a name is spelt or refused, in one way
+
+text_decided_as : (before : Input) (read : Result (List ℕ × Input) Fault) → IsTextOf read before → IsDecided (List ℕ) (ReadsText before) (RefusesName before)
+text_decided_as before (Ok read) answer = decided (List ℕ) (ReadsText before) (RefusesName before) (Ok read.0) before read.1 answer
+text_decided_as before (Err fault) answer = decided (List ℕ) (ReadsText before) (RefusesName before) (Err fault) before before answer
+
+pub text_decided : (before : Input) → IsDecided (List ℕ) (ReadsText before) (RefusesName before)
+text_decided before = text_decided_as before (text_from before) (text_stands before)
+
+-- The same of the place of a name and its length.
+
+-- the text lies before the place behind it
+pub text_place : (before : Input) (text : List ℕ) (after : Input) (reads : ReadsText before text after) → reads.start.at + length text ≡ after.at
+text_place before text after reads =
+    let ends = reads.same_end in
+    let starts = reads.counted.same_end in
+    let lengths = ap (λ (xs : List ℕ). length xs) reads.spelt in
+    let parts = length-append text after.left in
+    omega arith
+
+abbrev pub IsNameAnswer : Result (ℕ × ℕ) Fault → (before after : Input) → Type 0
+IsNameAnswer result before after = IsAnswer (ℕ × ℕ) (ReadsPair before) (RefusesName before) result before after
+
+abbrev IsNameOf : Result ((ℕ × ℕ) × Input) Fault → Input → Type 0
+IsNameOf (Ok read) before = IsNameAnswer (Ok read.0) before read.1
+IsNameOf (Err fault) before = IsNameAnswer (Err fault) before before
+
+abbrev name_read : ℕ × ℕ → Result (ℕ × ℕ) Fault
+name_read name = Ok name
+
+name_same : (first len other more : ℕ) → first ≡ other → len ≡ more → name_read (first, len) ≡ Ok (other, more)
+name_same first len other more at whole =
+    ap (λ (n : ℕ). name_read (n, len)) at ∙ ap (λ (n : ℕ). name_read (other, n)) whole
+
+read_answer : (before : Input) (text : List ℕ) (after : Input) → IsTextAnswer (Ok text) before after → IsNameAnswer (Ok (place_of text after)) before after
+read_answer before text after answer =
+    let place = text_place before text after answer.found in
+    record {
+      found = record { text = text; spelt = answer.found; placed = omega arith; whole = refl };
+      shorter = answer.shorter;
+      only = λ name there reads.
+          let same = answer.only reads.text there reads.spelt in
+          let texts = same.0 in
+          let equal : text ≡ reads.text = cc in
+          let lengths = ap (λ (xs : List ℕ). length xs) equal in
+          let places = ap (λ (input : Input). input.at) same.1 in
+          let there_place = text_place before reads.text there reads.spelt in
+          let placed = reads.placed in
+          let whole = reads.whole in
+          (name_same (after.at - length text) (length text) name.0 name.1 (omega arith) (omega arith), same.1);
+      refused = tt;
+      only_refused = λ other refuses. let refused = answer.only_refused other refuses in let bad : ⊥ = cc in absurd bad;
+    }
+
+fault_answer : (before : Input) (fault : Fault) → IsTextAnswer (Err fault) before before → IsNameAnswer (Err fault) before before
+fault_answer before fault answer =
+    record {
+      found = tt;
+      shorter = tt;
+      only = λ name there reads. let same = (answer.only reads.text there reads.spelt).0 in let bad : ⊥ = cc in absurd bad;
+      refused = answer.refused;
+      only_refused = λ other refuses.
+          let same = answer.only_refused other refuses in
+          let equal : fault ≡ other = cc in ap (λ (f : Fault). let result : Result (ℕ × ℕ) Fault = Err f in result) equal;
+    }
+
+name_of_text : (before : Input) (read : Result (List ℕ × Input) Fault) → IsTextOf read before → IsNameOf (placed_name read) before
+name_of_text before (Ok read) answer = read_answer before read.0 read.1 answer
+name_of_text before (Err fault) answer = fault_answer before fault answer
 
 name_stands : (before : Input) → IsNameOf (name_from before) before
-name_stands before = name_at_number before (number_from Unsigned 32 before) refl
+name_stands before = name_of_text before (text_from before) (text_stands before)
 
 pub name_taken
     : (result : Result (ℕ × ℕ) Fault) (before after : Input) → Takes (name_from before) result before after → IsNameAnswer result before after

@@ -1,11 +1,14 @@
 -- What a cursor has before it, and how a call takes from it (WebAssembly Core 1.0, section 5.2).
 use Rattle.std.specs.Prelude.{◌≡◌, ◌⊎◌, ℕ, ◌+◌, nat_le, if◌then◌else◌, List, [], ◌∷◌, length, take, drop, Result, Ok, Err, MatchResult}
 use Rattle.wasm_ops.specs.declared.faults.Fault.{Fault}
+use Rattle.wasm_ops.specs.declared.faults.Refusal.{Refusal}
+use Rattle.wasm_ops.specs.Refusals.{fault_at}
 
--- the place of the next byte, and the bytes from there to the end of the window
+-- the place of the next byte, the bytes from there to the end of the window, and as what it is refused that the window ends within an item
 pub record Input : Type 0 where
   pub at : ℕ
   pub left : List ℕ
+  pub cut : Refusal
 
 -- the place behind the window
 abbrev pub end_of : Input → ℕ
@@ -24,19 +27,30 @@ pub record IsDecided (A : Type 0) (Reads : A → Input → Type 0) (Refuses : Fa
 
 -- the window ends within an item
 abbrev pub cut_short : Input → Fault
-cut_short input = record { number = 1; place = end_of input }
+cut_short input = fault_at input.cut (end_of input)
 
 -- the next byte
-abbrev pub byte_of : (at : ℕ) → List ℕ → Result (ℕ × Input) Fault
-byte_of at [] = Err (cut_short (record { at = at; left = [] }))
-byte_of at (byte ∷ left) = Ok (byte, record { at = at + 1; left = left })
+abbrev pub byte_of : (at : ℕ) → List ℕ → (cut : Refusal) → Result (ℕ × Input) Fault
+byte_of at [] cut = Err (cut_short (record { at = at; left = []; cut = cut }))
+byte_of at (byte ∷ left) cut = Ok (byte, record { at = at + 1; left = left; cut = cut })
 
 abbrev pub byte_from : Input → Result (ℕ × Input) Fault
-byte_from input = byte_of input.at input.left
+byte_from input = byte_of input.at input.left input.cut
 
 -- the next bytes, so many of them
 abbrev pub bytes_from : (count : ℕ) → Input → Result (List ℕ × Input) Fault
 bytes_from count input =
     if nat_le count (length input.left)
-    then Ok (take count input.left, record { at = input.at + count; left = drop count input.left })
+    then Ok (take count input.left, record { at = input.at + count; left = drop count input.left; cut = input.cut })
     else Err (cut_short input)
+
+-- the same as a window of their own, with the places that they have
+abbrev pub window_at : (cut : Refusal) → Input → List ℕ → Input
+window_at cut input bytes = record { at = input.at; left = bytes; cut = cut }
+
+abbrev pub as_window : (cut : Refusal) → Input → Result (List ℕ × Input) Fault → Result (Input × Input) Fault
+as_window cut input (Ok read) = Ok (window_at cut input read.0, read.1)
+as_window cut input (Err fault) = Err fault
+
+abbrev pub window_from : (count : ℕ) → (cut : Refusal) → Input → Result (Input × Input) Fault
+window_from count cut input = as_window cut input (bytes_from count input)

@@ -1,25 +1,26 @@
 //! A cursor over bytes, which reads what a module is spelt with (WebAssembly Core 1.0, sections 5.2.1 to 5.2.4).
-ghost use Rattle.std.specs.Prelude.{◌≡◌, ℕ, ◌+◌, ◌-◌, ◌^◌, ◌<◌, ◌≤◌, ◌↔◌, [], length, take, drop, Ok, Err, IsTrue, IfOk, IfErr, OnOk, OnErr};
+ghost use Rattle.std.specs.Prelude.{◌≡◌, ℕ, List, ◌+◌, ◌-◌, ◌^◌, ◌<◌, ◌≤◌, ◌↔◌, [], length, take, drop, Ok, Err, IsTrue, IfOk, IfErr, OnOk, OnErr, option_map};
 ghost use Rattle.wasm_ops.specs.declared.faults.Fault.{Fault as FaultValue};
 ghost use Rattle.wasm_ops.specs.declared.numbers.Sign.TheVariants.{Unsigned, Signed};
 ghost use Rattle.std.specs.Result.{result_map_both};
-ghost use Rattle.std.specs.Str.{is_utf8};
-ghost use Rattle.wasm_ops.specs.Input.{Input, end_of, Takes, cut_short, byte_from, bytes_from};
-ghost use Rattle.wasm_ops.specs.NameInput.{ReadsName, RefusesName, name_from};
+ghost use Rattle.wasm_ops.specs.declared.faults.Refusal.TheVariants.{CutShort};
+ghost use Rattle.wasm_ops.specs.Input.{Input, end_of, Takes, cut_short, byte_from, bytes_from, window_from};
+ghost use Rattle.wasm_ops.specs.NameInput.{ReadsName, ReadsText, RefusesName, as_text, name_from, text_from};
 ghost use Rattle.wasm_ops.specs.NumberInput.{ReadsNumber, RefusesNumber, number_from, fault_of};
 
-use crate::faults::Fault;
+use crate::faults::{Fault, Refusal};
 use crate::numbers::{LebFault, Sign, read_number};
 use std::marker::Model;
 
 /// A place in bytes, and the window from there that may be read.
 ///
-/// Contracts see it as an `Input`: the place of the next byte, counted from the first one, and the bytes that are left in the window.
+/// Contracts see it as an `Input`: the place of the next byte, counted from the first one, the bytes that are left in the window, and the refusal that tells that the window ends within an item.
 /// A call that is refused leaves it as it was.
 #[derive(Drop)]
 pub struct Cursor<'a> {
     at: u32,
     left: &'a [u8],
+    cut: Refusal,
 }
 
 impl<'a> Model for Cursor<'a> {
@@ -28,22 +29,27 @@ impl<'a> Model for Cursor<'a> {
 
     ghost Value = { Input };
 
-    ghost view = { λ cursor. record { at = cursor.at; left = cursor.left.now } };
+    ghost view = { λ cursor. record { at = cursor.at; left = cursor.left.now; cut = cursor.cut } };
 
     ghost invariant = { λ cursor. cursor.at + length cursor.left.now < 2 ^ 32 };
 }
 
 impl<'a> Cursor<'a> {
-    /// A cursor at a place in the bytes, whose window reaches up to `end`.
+    /// A cursor at a place in the bytes, whose window reaches up to `end`. An item that passes the end is refused there as `CutShort`.
     pub fn new(bytes: &'a [u8], at: u32, end: u32) -> Cursor<'a>
         requires order { at ≤ end }
         requires within { end ≤ length bytes.now }
         ensures at { result.at ≡ at }
         ensures left { result.left ≡ take (end - at) (drop at bytes.now) }
+        ensures cut { result.cut ≡ CutShort }
     {
         let (_, behind) = bytes.split_at(at as usize);
         let (left, _) = behind.split_at((end - at) as usize);
-        Cursor { at, left }
+        Cursor {
+            at,
+            left,
+            cut: Refusal::CutShort,
+        }
     }
 
     /// The place of the next byte.
@@ -61,7 +67,7 @@ impl<'a> Cursor<'a> {
         self.left.is_empty()
     }
 
-    /// The next byte. Refused: 1 where none is left, at the window's end.
+    /// The next byte. Refused: as a cut where none is left, at the window's end.
     pub fn byte(&mut self) -> Result<u8, Fault>
         ensures { Takes (byte_from self.old) result self.old self.new }
     {
@@ -75,7 +81,7 @@ impl<'a> Cursor<'a> {
 
     /// An unsigned number of 32 bits, in any spelling of at most 5 bytes.
     ///
-    /// Refused: 1 where the window ends within the number, at the window's end; 2 where the fifth byte says that another one follows, and else 3 where its spare bits are not 0, both at the number's first byte.
+    /// Refused: as a cut where the window ends within the number, at the window's end; `LebTooLong` where the fifth byte says that another one follows, and else `LebSpare` where its spare bits are not 0, both at the number's first byte.
     pub fn u32_leb(&mut self) -> Result<u32, Fault>
         ensures value { Takes (number_from Unsigned 32 self.old) result self.old self.new }
         ensures found { IfOk result (λ number. ReadsNumber Unsigned 32 self.old number self.new) }
@@ -121,7 +127,7 @@ impl<'a> Cursor<'a> {
         self.number(Sign::Signed, 64)
     }
 
-    /// The next bytes, `count` of them. Refused: 1 where fewer are left in the window, at its end.
+    /// The next bytes, `count` of them. Refused: as a cut where fewer are left in the window, at its end.
     pub fn take(&mut self, count: u32) -> Result<&'a [u8], Fault>
         ensures { Takes (bytes_from count self.old) (result_map_both (λ bytes. bytes.now) (λ fault. fault) result) self.old self.new }
     {
@@ -134,9 +140,55 @@ impl<'a> Cursor<'a> {
         Ok(bytes)
     }
 
-    /// A name (section 5.2.4): the place of its first byte, and its length in bytes.
+    /// A window over the next bytes, `count` of them, with the places that they have. An item that passes its end is refused there as `cut`.
     ///
-    /// Refused like `u32_leb` at its length; then 1 where the window ends within its text, at the window's end; then 4 where the text is no UTF-8, at the text's first byte.
+    /// Refused: as a cut in this window where fewer are left in it, at its end.
+    pub fn window(&mut self, count: u32, cut: Refusal) -> Result<Cursor<'a>, Fault>
+        ensures { Takes (window_from count cut self.old) result self.old self.new }
+    {
+        let at = self.at;
+        let left = self.take(count)?;
+        Ok(Cursor { at, left, cut })
+    }
+
+    /// The text of a name (section 5.2.4).
+    ///
+    /// Refused like `u32_leb` at its length; then as a cut where the window ends within its text, at the window's end; then `NotUtf8` where the text is no UTF-8, at the text's first byte.
+    pub fn text(&mut self) -> Result<&'a str, Fault>
+        ensures value { Takes (text_from self.old) (result_map_both (λ text. text.now) (λ fault. fault) result) self.old self.new }
+        ensures found { IfOk result (λ text. ReadsText self.old text.now self.new) }
+        ensures before { IfOk result (λ text. length text.now ≤ self.new.at) }
+        ensures shorter { OnOk result (length self.new.left < length self.old.left) }
+        ensures only { (text : List ℕ) (after : Input) → ReadsText self.old text after → (result_map_both (λ read. read.now) (λ fault. fault) result ≡ Ok text) × (self.new ≡ after) }
+        ensures refused { IfErr result (RefusesName self.old) }
+        ensures only_refused { (fault : FaultValue) → RefusesName self.old fault → result ≡ Err fault }
+        ensures kept { OnErr result (self.new ≡ self.old) }
+    {
+        self.take_text()
+    }
+
+    // The same as a function of what lies ahead.
+    fn take_text(&mut self) -> Result<&'a str, Fault>
+        ensures value { Takes (text_from self.old) (result_map_both (λ text. text.now) (λ fault. fault) result) self.old self.new }
+        ensures before { IfOk result (λ text. length text.now ≤ self.new.at) }
+    {
+        let mut ahead = Cursor {
+            at: self.at,
+            left: self.left,
+            cut: self.cut,
+        };
+        let len = ahead.u32_leb()?;
+        let first = ahead.at;
+        let Some(text) = text_of(ahead.take(len)?) else {
+            return Err(Refusal::NotUtf8.at(first));
+        };
+        *self = ahead;
+        Ok(text)
+    }
+
+    /// A name (section 5.2.4): the place of its text's first byte, and its length in bytes.
+    ///
+    /// Refused like `text`.
     pub fn name(&mut self) -> Result<(u32, u32), Fault>
         ensures value { Takes (name_from self.old) result self.old self.new }
         ensures found { IfOk result (λ name. ReadsName self.old name.0 name.1 self.new) }
@@ -153,21 +205,10 @@ impl<'a> Cursor<'a> {
     fn take_name(&mut self) -> Result<(u32, u32), Fault>
         ensures { Takes (name_from self.old) result self.old self.new }
     {
-        let mut ahead = Cursor {
-            at: self.at,
-            left: self.left,
-        };
-        let len = ahead.u32_leb()?;
-        let first = ahead.at;
-        let text = ahead.take(len)?;
-        if !is_text(text) {
-            return Err(Fault {
-                number: 4,
-                place: first,
-            });
-        }
-        *self = ahead;
-        Ok((first, len))
+        let text = self.text()?;
+        let behind = self.at();
+        let len = text.len() as u32;
+        Ok((behind - len, len))
     }
 
     // A number of so many bits, with the clauses of the calls above.
@@ -209,8 +250,8 @@ impl<'a> Cursor<'a> {
     {
         match why {
             LebFault::CutShort => self.cut_short(),
-            LebFault::TooLong => self.fault(2),
-            LebFault::SpareBits => self.fault(3),
+            LebFault::TooLong => Refusal::LebTooLong.at(self.at),
+            LebFault::SpareBits => Refusal::LebSpare.at(self.at),
         }
     }
 
@@ -218,26 +259,16 @@ impl<'a> Cursor<'a> {
     fn cut_short(&self) -> Fault
         ensures { result ≡ cut_short self.now }
     {
-        Fault {
-            number: 1,
-            place: self.at + self.left.len() as u32,
-        }
-    }
-
-    // A refusal at the next byte.
-    fn fault(&self, number: u8) -> Fault
-        ensures { result ≡ record { number = number; place = self.now.at } }
-    {
-        Fault {
-            number,
-            place: self.at,
-        }
+        self.cut.at(self.at + self.left.len() as u32)
     }
 }
 
-// Whether the bytes are UTF-8.
-fn is_text(bytes: &[u8]) -> bool
-    ensures { result ≡ is_utf8 bytes.now }
+// The text that the bytes are in UTF-8.
+fn text_of(bytes: &[u8]) -> Option<&str>
+    ensures { option_map (λ text. text.now) result ≡ as_text bytes.now }
 {
-    str::from_utf8(bytes).is_ok()
+    match str::from_utf8(bytes) {
+        Ok(text) => Some(text),
+        Err(_) => None,
+    }
 }

@@ -12,4 +12,6 @@ pub mod ItemSteps
 pub mod OperatorSteps
 pub mod RefusalPlaces
 pub mod BodyAnswers
+pub mod FormedBodies
+mod FormedLaws
 mod FormSteps

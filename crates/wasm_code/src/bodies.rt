@@ -2,6 +2,7 @@
 ghost use Rattle.std.specs.Prelude.{◌≤◌, ◌<◌, ◌^◌, length, IfOk, IfErr};
 ghost use Rattle.wasm_ops.specs.declared.faults.Fault.{Fault as FaultValue};
 ghost use Rattle.wasm_ops.specs.declared.modules.Body.{Body as BodyValue};
+ghost use Rattle.wasm_ops.specs.WellFormed.{IsWellFormedBody};
 ghost use Rattle.wasm_code.specs.Bodies.{SpellsBody, RefusesBody};
 ghost use Rattle.wasm_code.specs.Faults.{GivesValue, GivesFault, IsAmong};
 ghost use Rattle.wasm_code.specs.Operators.{SpellsOperators, RefusesOperators};
@@ -22,6 +23,7 @@ use wasm_ops::{Body, Cursor, Items, Op, Refusal};
 pub fn read_body(alloc: Global, bytes: &[u8]) -> Result<Body, CodeFault>
     requires size { length bytes.now < 2 ^ 32 }
     ensures found { IfOk result (λ body. SpellsBody bytes.now body) }
+    ensures formed { IfOk result (λ body. IsWellFormedBody body) }
     ensures refused { IfErr result (λ fault. IsAmong fault (RefusesBody bytes.now)) }
     ensures placed { IfErr result (λ fault. IsAmong fault (λ f. f.place ≤ length bytes.now)) }
 

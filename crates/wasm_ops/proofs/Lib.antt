@@ -1,6 +1,7 @@
 mod NumberExamples
 mod SequenceExamples
 pub mod Answers
+pub mod ByteLaws
 pub mod InputLaws
 pub mod NameLaws
 pub mod NestedLaws

@@ -1,4 +1,5 @@
 pub mod Arithmetic
+pub mod Bytes
 pub mod Input
 pub mod IntOps
 pub mod Limits

@@ -1,5 +1,6 @@
 use Rattle.wasm_code.proofs.BodyLaws.{either, body_or_fault, one_body, one_refusal}
 use Rattle.wasm_code.proofs.RefusalPlaces.{body_placed}
+use Rattle.wasm_code.proofs.FormedBodies.{body_formed}
 use Rattle.wasm_code.proofs.laws.body_or_refusal.Goals as goal
 
 pub returns-clause-one_holds : goal.returns-clause-one_holds
@@ -13,6 +14,9 @@ returns-clause-one_body c = one_body
 
 pub returns-clause-one_fault : goal.returns-clause-one_fault
 returns-clause-one_fault c = one_refusal
+
+pub returns-clause-formed : goal.returns-clause-formed
+returns-clause-formed c = body_formed
 
 pub returns-clause-placed : goal.returns-clause-placed
 returns-clause-placed c = body_placed

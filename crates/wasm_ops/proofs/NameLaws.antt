@@ -1,5 +1,5 @@
 -- What is taken from a cursor by the readers of names is what the grammar has there.
-use Rattle.std.proofs.Common.{◌≡◌, ◌⊎◌, inl, inr, ℕ, ◌+◌, ◌-◌, ◌<◌, ◌≤◌, Bool, true, false, List, ◌++◌, length, take, drop, if◌then◌else◌, Option, Some, None, Result, Ok, Err, refl, ap, sym, ◌∙◌, subst, arith, length-append, length-drop}
+use Rattle.std.proofs.Common.{◌≡◌, ◌⊎◌, inl, inr, ℕ, ◌+◌, ◌-◌, ◌<◌, ◌≤◌, Bool, true, false, List, ◌++◌, length, take, drop, if◌then◌else◌, Some, None, Result, Ok, Err, refl, ap, sym, ◌∙◌, subst, arith, length-append, length-drop}
 use Rattle.std.proofs.lemmas.Bool.{cases_lt, le-leb, lt-leb}
 use Rattle.std.proofs.lemmas.List.{take-append-drop, length-take-le}
 use Rattle.std.proofs.Math.Seq.{take-append_seam, drop-append_seam}
@@ -9,7 +9,7 @@ use Rattle.wasm_ops.specs.declared.faults.Fault.{Fault}
 use Rattle.wasm_ops.specs.declared.numbers.Sign.TheVariants.{Unsigned}
 use Rattle.wasm_ops.specs.Input.{Input, end_of, cut_short, Takes, bytes_from, IsDecided}
 use Rattle.wasm_ops.specs.NumberInput.{ReadsNumber, RefusesNumber, number_from}
-use Rattle.wasm_ops.specs.NameInput.{ReadsText, ReadsName, ReadsPair, RefusesName, not_utf8, known_text, text_behind, counted_from, text_from, place_of, placed_name, name_from}
+use Rattle.wasm_ops.specs.NameInput.{ReadsText, ReadsPair, RefusesName, not_utf8, known_text, text_behind, counted_from, text_from, place_of, placed_name, name_from}
 use Rattle.wasm_ops.proofs.Answers.{IsAnswer, decided}
 use Rattle.wasm_ops.proofs.InputLaws.{IsNumberAnswer, taken, same_input, same_cut_short}
 

@@ -8,7 +8,7 @@ use crate::operators::Op;
 use crate::types::{FuncType, Limits, ValType};
 
 /// The body of a function.
-#[derive(Debug, Drop)]
+#[derive(Debug, PartialEq, Eq, Drop)]
 pub struct Body {
     /// The types of the declared locals, without the parameters.
     pub locals: Items<ValType>,
@@ -21,7 +21,7 @@ pub struct Body {
 }
 
 /// A module.
-#[derive(Debug, Drop)]
+#[derive(Debug, PartialEq, Eq, Drop)]
 pub struct Module {
     /// The function types.
     pub types: Items<FuncType>,
@@ -58,7 +58,7 @@ pub struct Module {
 }
 
 /// An import: two names and what they stand for.
-#[derive(Debug, Drop)]
+#[derive(Debug, PartialEq, Eq, Drop)]
 pub struct Import {
     /// The name of the module that it comes from.
     pub module: Name,
@@ -110,7 +110,7 @@ pub struct Constant {
 }
 
 /// An export.
-#[derive(Debug, Drop)]
+#[derive(Debug, PartialEq, Eq, Drop)]
 pub struct Export {
     /// The name.
     pub name: Name,
@@ -123,7 +123,7 @@ pub struct Export {
 }
 
 /// An element segment: functions that are laid into a table.
-#[derive(Debug, Drop)]
+#[derive(Debug, PartialEq, Eq, Drop)]
 pub struct ElementSegment {
     /// The table's index.
     pub table: u32,
@@ -136,7 +136,7 @@ pub struct ElementSegment {
 }
 
 /// A data segment: bytes that are laid into a memory.
-#[derive(Debug, Drop)]
+#[derive(Debug, PartialEq, Eq, Drop)]
 pub struct ByteSegment {
     /// The memory's index.
     pub memory: u32,

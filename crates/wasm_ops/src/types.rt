@@ -15,7 +15,7 @@ pub enum ValType {
 }
 
 /// A function's type: its parameters in order, and its result, of which there is at most one.
-#[derive(Debug, Drop)]
+#[derive(Debug, PartialEq, Eq, Drop)]
 pub struct FuncType {
     /// The parameters' types, the first one first.
     pub params: Items<ValType>,

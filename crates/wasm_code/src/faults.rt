@@ -3,6 +3,7 @@ ghost use Rattle.std.specs.Prelude.{◌≡◌};
 ghost use Rattle.wasm_code.specs.declared.faults.CodeFault.TheVariants.{Bytes, NoMemory};
 
 use std::alloc::{AllocError, AllocFailed};
+use std::fmt::{self, Display, Formatter, Write};
 use wasm_ops::Fault;
 
 /// Why `read_body` answers no body.
@@ -10,11 +11,21 @@ use wasm_ops::Fault;
 pub enum CodeFault {
     /// The bytes spell none: the number of the refusal, and its place counted from the first byte.
     ///
-    /// 1 cut short, 2 LEB128 too long, 3 LEB128 with spare bits set, 5 a float operator, 6 an unknown operator, 7 a float type, 8 no type, 9 an `else` of no `if`, 10 a block too deep, 11 too many locals, 12 too many targets, 13 a byte that must be 00 and is not, 14 bytes behind the closing `end`.
+    /// It is one of `CutShort`, `LebTooLong`, `LebSpare`, and those of `Refusal` from `FloatOperator` to `RestAfterEnd`.
     Bytes(Fault),
 
     /// No memory was left for the answer.
     NoMemory,
+}
+
+/// The refusal as `Fault` tells it, or that memory ran out.
+impl Display for CodeFault {
+    fn fmt<W: Write>(&self, f: &mut Formatter<W>) -> fmt::Result {
+        match self {
+            CodeFault::Bytes(fault) => write!(f, "{fault}"),
+            CodeFault::NoMemory => f.write_str("out of memory"),
+        }
+    }
 }
 
 impl From<Fault> for CodeFault {

@@ -7,7 +7,7 @@ use wasm_ops::{Access, IntOp, Op, Operation, ValType};
 
 /// What a byte begins in the place of an operator.
 #[derive(Clone, Copy)]
-pub enum Form {
+pub(crate) enum Form {
     /// An operator that opens no block.
     Operator(Layout),
 
@@ -26,7 +26,7 @@ pub enum Form {
 
 /// What follows the byte of an operator.
 #[derive(Clone, Copy)]
-pub enum Layout {
+pub(crate) enum Layout {
     /// Nothing.
     Bare(Op),
 
@@ -60,7 +60,7 @@ pub enum Layout {
 
 /// An operator that has an index or a label alone.
 #[derive(Clone, Copy)]
-pub enum Indexed {
+pub(crate) enum Indexed {
     /// `br`
     Br,
 

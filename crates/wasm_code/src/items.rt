@@ -4,7 +4,7 @@ use wasm_ops::{Op, ValType};
 
 /// One item of a body: an operator that opens no block, or what opens, divides or closes one (WebAssembly Core 1.0, section 5.4.1).
 #[derive(Clone, Copy)]
-pub enum Item {
+pub(crate) enum Item {
     /// An operator that opens no block and closes none.
     Operator(Op),
 
@@ -20,7 +20,7 @@ pub enum Item {
 
 /// An operator that opens a block.
 #[derive(Clone, Copy)]
-pub enum Opener {
+pub(crate) enum Opener {
     /// `block`
     Block,
 
@@ -33,7 +33,7 @@ pub enum Opener {
 
 /// What an open block is.
 #[derive(Clone, Copy)]
-pub enum Kind {
+pub(crate) enum Kind {
     /// A `block`.
     Block,
 

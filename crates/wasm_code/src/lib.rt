@@ -20,8 +20,6 @@ mod value_types;
 
 pub use bodies::read_body;
 pub use faults::CodeFault;
-pub use forms::{Form, Indexed, Layout};
-pub use items::{Item, Kind, Opener};
 pub use value_types::value_type;
 
 #[cfg(test)]

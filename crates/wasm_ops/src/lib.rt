@@ -38,8 +38,6 @@ pub use traps::Trap;
 pub use types::{Access, FuncType, Limits, ValType};
 
 #[cfg(test)]
-mod arithmetic_tests;
-#[cfg(test)]
 mod cursor_tests;
 #[cfg(test)]
 mod tests;

@@ -4,6 +4,9 @@ ghost use Rattle.std.specs.Result.{result_map_both};
 ghost use Rattle.wasm_ops.specs.Numbers.{last_of, number_at};
 ghost use Rattle.wasm_ops.specs.declared.numbers.Sign.TheVariants.{Unsigned, Signed};
 
+use crate::faults::Refusal;
+use std::fmt::{self, Display, Formatter, Write};
+
 /// Whether the spelt numbers have a sign. A negative one is answered as its two's complement.
 #[derive(Clone, Copy)]
 pub enum Sign {
@@ -25,6 +28,18 @@ pub enum LebFault {
 
     /// The last byte that a number may have does not fit: its spare bits are not 0, or not copies of the sign.
     SpareBits,
+}
+
+/// What a maker of modules reads of it.
+impl Display for LebFault {
+    fn fmt<W: Write>(&self, f: &mut Formatter<W>) -> fmt::Result {
+        let refusal = match self {
+            LebFault::CutShort => Refusal::CutShort,
+            LebFault::TooLong => Refusal::LebTooLong,
+            LebFault::SpareBits => Refusal::LebSpare,
+        };
+        write!(f, "{refusal}")
+    }
 }
 
 // The bit of a byte that says that another byte follows.

@@ -1,6 +1,12 @@
-//! What no clause says: the texts and bytes of the public standard, and that each call can succeed.
+//! What no clause says: texts, sizes, and that each call can succeed.
+//!
+//! The program `integer_table` prints every integer operator at boundary operands, and `body_table` reads each operator that a body may have.
+ghost use Rattle.std.specs.Prelude.{◌≡◌};
 
-use crate::{FuncType, IntOp, Items, Name, Trap, ValType};
+use crate::{
+    Access, Fault, FuncType, IntOp, Items, Name, Op, Refusal, Trap, ValType, apply_binary,
+    apply_unary,
+};
 use std::test::Fail;
 
 #[test]
@@ -21,33 +27,60 @@ fn traps_have_their_texts(rt: HostRuntime) {
 }
 
 #[test]
-fn integer_operators_are_the_standards(rt: HostRuntime) {
-    // The first and last byte of each run in section 5.4.5, and their neighbours, which are float operators or loads.
-    let known = [
-        0x45, 0x4F, 0x50, 0x5A, 0x67, 0x78, 0x79, 0x8A, 0xA7, 0xAC, 0xAD,
-    ];
-    for byte in known {
-        assert_eq!(rt; IntOp::from_byte(byte).map(|op| op.byte()), Some(byte));
-    }
-    let unknown = [0x00, 0x44, 0x5B, 0x66, 0x8B, 0xA6, 0xA8, 0xAB, 0xAE, 0xFF];
-    for byte in unknown {
-        assert_eq!(rt; IntOp::from_byte(byte), None);
-    }
+fn refusals_show_themselves(rt: HostRuntime) -> Result<(), Fail> {
+    let alloc = rt.alloc();
+    let float = Refusal::FloatOperator.at(35);
+    assert_eq!(rt;
+        float,
+        Fault {
+            number: 5,
+            place: 35
+        }
+    );
+    let shown = format!(in alloc; "{float}")?;
+    assert_eq!(rt; shown.as_str(), "refusal 5 at byte 35: a float operator");
+    Ok(())
+}
+
+// A body is a list of operators, and is walked operator by operator: each has to be small.
+#[test]
+fn operators_are_small(rt: HostRuntime) {
+    assert_eq!(rt; size_of::<Op>(), 16);
+    assert_eq!(rt; size_of::<Access>(), 3);
 }
 
 #[test]
-fn lists_and_names_give_back_what_they_hold(rt: HostRuntime) -> Result<(), Fail> {
+fn operators_compute(rt: HostRuntime) {
+    let eqz = IntOp::from_byte(0x45).expect(&rt, "i32.eqz");
+    assert!(rt; eqz.operation().takes_one_operand());
+    assert!(rt; eqz.operation().operand_type() == ValType::I32);
+    assert_eq!(rt; apply_unary(eqz, 0), 1);
+    let div_s = IntOp::from_byte(0x6D).expect(&rt, "i32.div_s");
+    assert!(rt; !div_s.operation().takes_one_operand());
+    assert!(rt; div_s.operation().operand_type() == ValType::I32);
+    assert_eq!(rt; apply_binary(div_s, 0xFFFF_FFF9, 2), Ok(0xFFFF_FFFD));
+    assert_eq!(rt; IntOp::from_byte(0xA8), None);
+}
+
+#[test]
+fn parts_give_back_what_they_hold(rt: HostRuntime) -> Result<(), Fail> {
     let alloc = rt.alloc();
-    let params = Items::new(vec![in alloc; ValType::I32, ValType::I64]?);
     let function = FuncType {
-        params,
+        params: Items::new(vec![in alloc; ValType::I32, ValType::I64]?),
         result: Some(ValType::I32),
     };
     assert_eq!(rt;
         function.params.as_slice(),
         [ValType::I32, ValType::I64].as_slice()
     );
+    let other = FuncType {
+        params: Items::new(vec![in alloc; ValType::I32]?),
+        result: Some(ValType::I32),
+    };
+    assert!(rt; function == function);
+    assert!(rt; function != other);
     let name = Name::new(format!(in alloc; "fd_read")?);
     assert_eq!(rt; name.as_str(), "fd_read");
+    assert!(rt; name != Name::new(format!(in alloc; "fd_write")?));
     Ok(())
 }

@@ -1,0 +1,244 @@
+#!/usr/bin/env python3
+"""Bodies by tables: each operator, each refusal at its place, and bodies at their limits.
+
+The spellings and what they mean are those of WebAssembly Core 1.0, section 5.4, written out here by hand;
+the numbers of refusals and the limits are those of docs/FORMATS.md. Nothing here is taken from what the
+program prints.
+
+    body_table.py STDIN STDOUT            compares the two files with the tables
+    body_table.py --write STDIN STDOUT    writes the tables there
+"""
+
+import sys
+
+TEXTS = {
+    1: "the bytes end within an item",
+    2: "a LEB128 number is too long",
+    3: "a LEB128 number sets bits that it does not have",
+    5: "a float operator",
+    6: "an unknown operator",
+    7: "a float type",
+    8: "an unknown type",
+    9: "an else without an if",
+    10: "blocks are nested too deep",
+    11: "too many locals",
+    12: "too many targets of a br_table",
+    13: "a reserved byte is not zero",
+    14: "bytes behind the end of a body",
+}
+
+
+def refused(number, place):
+    return "refusal %d at byte %d: %s" % (number, place, TEXTS[number])
+
+
+def body(ops, locals="", targets=""):
+    return "[%s] [%s] [%s]" % (locals, ops, targets)
+
+
+def alone(op, targets=""):
+    """A body of one operator and its `end`."""
+    return body(op + ", End", targets=targets)
+
+
+# Operators that open no block, with what is behind their byte.
+OPERATORS = [
+    ("00", "Unreachable"),
+    ("01", "Nop"),
+    ("0c8000", "Br(0)"),
+    ("0d01", "BrIf(1)"),
+    ("0f", "Return"),
+    ("108080808000", "Call(0)"),
+    ("110700", "CallIndirect(7)"),
+    ("1a", "Drop"),
+    ("1b", "Select"),
+    ("208300", "LocalGet(3)"),
+    ("2104", "LocalSet(4)"),
+    ("2205", "LocalTee(5)"),
+    ("2306", "GlobalGet(6)"),
+    ("248001", "GlobalSet(128)"),
+    ("3f00", "MemorySize"),
+    ("4000", "MemoryGrow"),
+    ("417f", "ConstI32(4294967295)"),
+    ("41c0bb78", "ConstI32(4294843840)"),
+    ("427e", "ConstI64(18446744073709551614)"),
+]
+
+# The byte, the type of the value, how many bytes are moved, and whether their sign is repeated.
+LOADS = [
+    (0x28, "I32", 4, "false"),
+    (0x29, "I64", 8, "false"),
+    (0x2C, "I32", 1, "true"),
+    (0x2D, "I32", 1, "false"),
+    (0x2E, "I32", 2, "true"),
+    (0x2F, "I32", 2, "false"),
+    (0x30, "I64", 1, "true"),
+    (0x31, "I64", 1, "false"),
+    (0x32, "I64", 2, "true"),
+    (0x33, "I64", 2, "false"),
+    (0x34, "I64", 4, "true"),
+    (0x35, "I64", 4, "false"),
+]
+
+STORES = [
+    (0x36, "I32", 4),
+    (0x37, "I64", 8),
+    (0x3A, "I32", 1),
+    (0x3B, "I32", 2),
+    (0x3C, "I64", 1),
+    (0x3D, "I64", 2),
+    (0x3E, "I64", 4),
+]
+
+# The integer operators of one operand, and the first and last byte of each run of those of two.
+OF_ONE = [0x45, 0x50, 0x67, 0x68, 0x69, 0x79, 0x7A, 0x7B, 0xA7, 0xAC, 0xAD]
+OF_TWO = [(0x46, 0x4F), (0x51, 0x5A), (0x6A, 0x78), (0x7C, 0x8A)]
+
+# The first and last byte of each run of float operators, and of bytes that are no operator.
+FLOATS = [(0x2A, 0x2B), (0x38, 0x39), (0x43, 0x44), (0x5B, 0x66), (0x8B, 0xA6), (0xA8, 0xAB), (0xAE, 0xBF)]
+UNKNOWN = [(0x06, 0x0A), (0x12, 0x19), (0x1C, 0x1F), (0x25, 0x27), (0xC0, 0xFF)]
+
+# Blocks that know their ends, an empty body, and `br_table`s that share the targets.
+BODIES = [
+    (
+        "01027e027f0340010b41000b047e4201050142020b04400b0b",
+        body(
+            "Block { result: Some(I32), end: 5 }, Loop { result: None, end: 3 }, Nop, End, ConstI32(0), End, "
+            "If { result: Some(I64), other: Some(8), end: 11 }, ConstI64(1), Else { end: 11 }, Nop, ConstI64(2), End, "
+            "If { result: None, other: None, end: 13 }, End, End",
+            locals="I64, I64",
+        ),
+    ),
+    ("000b", body("End")),
+    ("000e00020b", alone("BrTable { from: 0, count: 0 }", "2")),
+    ("000e020100030e0080010b", body("BrTable { from: 0, count: 2 }, BrTable { from: 3, count: 0 }, End", targets="1, 0, 3, 128")),
+]
+
+REFUSALS = [
+    # Cut short in the locals, in each kind of immediate, and before the last `end`.
+    ("", 1, 0),
+    ("01", 1, 1),
+    ("0101", 1, 2),
+    ("00", 1, 1),
+    ("0002", 1, 2),
+    ("0002400b", 1, 4),
+    ("000c", 1, 2),
+    ("000e0100", 1, 4),
+    ("001100", 1, 3),
+    ("002080", 1, 3),
+    ("002802", 1, 3),
+    ("003f", 1, 2),
+    ("004180", 1, 3),
+    ("0042", 1, 2),
+    # LEB128 that is too long, or has spare bits.
+    ("000c808080808000", 2, 2),
+    ("808080808000", 2, 0),
+    ("002800ffffffff8f", 2, 3),
+    ("0020ffffffff1f", 3, 2),
+    ("00418080808008", 3, 2),
+    ("000e01008080808010", 3, 4),
+    # Float operators, also where none is reached.
+    ("0000920b", 5, 2),
+    ("002a0200", 5, 1),
+    ("004300", 5, 1),
+    # Bytes that are no operator.
+    ("000112", 6, 2),
+    # Types.
+    ("00027d", 7, 2),
+    ("01017c", 7, 2),
+    ("000400", 8, 2),
+    ("010140", 8, 2),
+    # An `else` without `if`, a second one, and one of a block within an `if`.
+    ("00050b", 9, 1),
+    ("0004400501050b0b", 9, 5),
+    ("000440024005", 9, 5),
+    # Locals.
+    ("0181087f", 11, 1),
+    ("0280087f017d", 11, 4),
+    ("02017fffffffff0f7f", 11, 3),
+    # Targets.
+    ("000e8120", 12, 2),
+    ("00010effffffff0f", 12, 3),
+    # A byte that must be 00.
+    ("003f01", 13, 2),
+    ("00408000", 13, 2),
+    ("0011800001", 13, 4),
+    # Bytes behind the closing `end`.
+    ("000b00", 14, 2),
+    ("000b0b", 14, 2),
+    ("0002400b0b0b", 14, 5),
+    # The first of two.
+    ("000592", 9, 1),
+    ("00027d05", 7, 2),
+    ("0181087d", 11, 1),
+    ("000b92", 14, 2),
+]
+
+# A function that a compiler made, which copies what it reads to what it writes, in a loop; a body of each kind of
+# locals, block and immediate, with padded numbers; a table of labels with padded numbers, between operators that
+# are never reached. Each front of them is cut short where it ends.
+CUT = [
+    "01017f23808080800041106b2200248080808000024003402000418008360208200041800836020c4100200041086a41"
+    "01200041046a1080808080000d012000280204450d012000200028020436020c4101200041086a4101200041046a1081"
+    "80808000450d000b0b200041106a2480808080000b",
+    "02027e81007f027f0340010b41c0bb780b047e42807f051187000042020b04400b3f0040000b",
+    "000f0e8200018000033703ffff03208080000b",
+]
+
+
+def deep(depth, last):
+    """Blocks one in another; the last one has this block type. Each is closed."""
+    return "00" + "0240" * (depth - 1) + "02" + last + "0b" * depth + "0b"
+
+
+def rows():
+    for spelling, op in OPERATORS:
+        yield "00" + spelling + "0b", alone(op)
+    for byte, value, width, signed in LOADS:
+        access = "Access { value: %s, width: %d, signed: %s }" % (value, width, signed)
+        yield "00%02x0280080b" % byte, alone("Load { access: %s, align: 2, offset: 1024 }" % access)
+    for byte, value, width in STORES:
+        access = "Access { value: %s, width: %d, signed: false }" % (value, width)
+        yield "00%02x00030b" % byte, alone("Store { access: %s, align: 0, offset: 3 }" % access)
+    for byte in OF_ONE:
+        yield "00%02x0b" % byte, alone("Unary(IntOp { byte: %d })" % byte)
+    for first, last in OF_TWO:
+        for byte in range(first, last + 1):
+            yield "00%02x0b" % byte, alone("Binary(IntOp { byte: %d })" % byte)
+    for runs, number in ((FLOATS, 5), (UNKNOWN, 6)):
+        for first, last in runs:
+            for byte in range(first, last + 1):
+                yield "00%02x" % byte, refused(number, 1)
+    yield from BODIES
+    for spelling, number, place in REFUSALS:
+        yield spelling, refused(number, place)
+    for spelling in CUT:
+        for length in range(0, len(spelling), 2):
+            yield spelling[:length], refused(1, length // 2)
+    yield deep(1000, "40"), "[0, 2001, 0] Some(Block { result: None, end: 1999 })"
+    # Too deep, also where the block's type is none.
+    yield deep(1001, "40"), refused(10, 2001)
+    yield deep(1001, "00"), refused(10, 2001)
+    yield "0280087f007e0b", "[1024, 1, 0] Some(End)"
+    yield "000e8020" + "00" * 4097 + "0b", "[0, 2, 4097] Some(BrTable { from: 0, count: 4096 })"
+
+
+def main():
+    words = sys.argv[1:]
+    tables = ["".join(line + "\n" for line in column) for column in zip(*rows())]
+    if words[:1] == ["--write"]:
+        for path, table in zip(words[1:], tables):
+            with open(path, "w") as stored:
+                stored.write(table)
+        return 0
+    for path, table in zip(words, tables):
+        with open(path) as stored:
+            if stored.read() != table:
+                print("body_table: %s is not what the tables make" % path)
+                return 1
+    print("body_table: %d bodies agree" % len(list(rows())))
+    return 0
+
+
+if __name__ == "__main__":
+    sys.exit(main())

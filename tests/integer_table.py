@@ -97,6 +97,57 @@ def operators():
     yield 0xAD, lambda a, n: a, 32, True
 
 
+# Single rows which a reader can check by hand: the operator's byte, its operands, and what it gives. The computation above is held to them.
+BY_HAND = [
+    (0x45, (0,), 1),
+    (0x50, (1 << 63,), 0),
+    (0x67, (0,), 32),
+    (0x68, (1 << 31,), 31),
+    (0x79, (1,), 63),
+    (0x7A, (0,), 64),
+    (0x7B, ((1 << 64) - 1,), 64),
+    (0xA7, (0x123456789,), 0x23456789),
+    (0xAC, (1 << 31,), 0xFFFFFFFF80000000),
+    (0xAD, (1 << 31,), 1 << 31),
+    # lt_s and lt_u of -1 and 1, ge_s and ge_u of the least number and 0
+    (0x48, (0xFFFFFFFF, 1), 1),
+    (0x49, (0xFFFFFFFF, 1), 0),
+    (0x59, (1 << 63, 0), 0),
+    (0x5A, (1 << 63, 0), 1),
+    (0x6A, (0xFFFFFFFF, 1), 0),
+    (0x6B, (0, 1), 0xFFFFFFFF),
+    (0x7E, (1 << 63, 2), 0),
+    (0x71, (6, 3), 2),
+    (0x72, (6, 3), 7),
+    (0x73, (6, 3), 5),
+    (0x74, (1, 33), 2),
+    (0x87, (1 << 63, 63), (1 << 64) - 1),
+    (0x88, (1 << 63, 63), 1),
+    (0x77, ((1 << 31) + 1, 1), 3),
+    (0x78, (3, 1), (1 << 31) + 1),
+    # -7 by 2 is -3, and -1 remains
+    (0x6D, (0xFFFFFFF9, 2), 0xFFFFFFFD),
+    (0x6F, (0xFFFFFFF9, 2), 0xFFFFFFFF),
+    (0x6E, (0xFFFFFFFF, 2), 0x7FFFFFFF),
+    (0x70, (5, 0), "by-zero"),
+    (0x80, (5, 0), "by-zero"),
+    (0x6D, (1 << 31, 0xFFFFFFFF), "overflow"),
+    (0x6F, (1 << 31, 0xFFFFFFFF), 0),
+    (0x7F, (1 << 63, (1 << 64) - 1), "overflow"),
+    (0x81, (1 << 63, (1 << 64) - 1), 0),
+]
+
+
+def wrong_row():
+    """The first row by hand that the computation does not give."""
+    known = {byte: (function, bits) for byte, function, bits, one in operators()}
+    for byte, operands_by_hand, result in BY_HAND:
+        function, bits = known[byte]
+        if function(*operands_by_hand, bits) != result:
+            return byte
+    return None
+
+
 def operands(bits):
     """0, 1, -1, the least, the greatest, the least's neighbours, and counts about both widths."""
     least = 1 << (bits - 1)
@@ -118,6 +169,10 @@ def table():
 
 
 def main():
+    wrong = wrong_row()
+    if wrong is not None:
+        print("integer_table: the operator %x does not give what was computed by hand" % wrong)
+        return 1
     lines = list(table())
     if len(sys.argv) < 2:
         print("\n".join(lines))

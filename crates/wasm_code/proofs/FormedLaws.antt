@@ -144,14 +144,40 @@ whole_i64 : IsAccess (record { value = I64; width = 8; signed = false })
 whole_i64 = record { width = inr (inr (inr refl)); within = omega arith; signed = λ e. never e }
 
 load_formed : AreFormed load_rows
-load_formed =
-    (whole_i32, (whole_i64, (one_byte I32 true, (one_byte I32 false, (two_bytes I32 true, (two_bytes I32 false,
-    (one_byte I64 true, (one_byte I64 false, (two_bytes I64 true, (two_bytes I64 false, (four_of_i64 true, (four_of_i64 false, tt))))))))))))
+load_formed = (
+  whole_i32,
+  (
+    whole_i64,
+    (
+      one_byte I32 true,
+      (
+        one_byte I32 false,
+        (
+          two_bytes I32 true,
+          (
+            two_bytes I32 false,
+            (one_byte I64 true, (one_byte I64 false, (two_bytes I64 true, (two_bytes I64 false, (four_of_i64 true, (four_of_i64 false, tt)))))),
+          ),
+        ),
+      ),
+    ),
+  ),
+)
 
 store_formed : AreFormed store_rows
-store_formed =
-    ((whole_i32, refl), ((whole_i64, refl), ((one_byte I32 false, refl), ((two_bytes I32 false, refl),
-    ((one_byte I64 false, refl), ((two_bytes I64 false, refl), ((four_of_i64 false, refl), (λ n. tt, (λ n. tt, (tt, (tt, tt)))))))))))
+store_formed = (
+  (whole_i32, refl),
+  (
+    (whole_i64, refl),
+    (
+      (one_byte I32 false, refl),
+      (
+        (two_bytes I32 false, refl),
+        ((one_byte I64 false, refl), ((two_bytes I64 false, refl), ((four_of_i64 false, refl), (λ n. tt, (λ n. tt, (tt, (tt, tt))))))),
+      ),
+    ),
+  ),
+)
 
 row_formed : (byte : ℕ) → IsFormed (row_of byte)
 row_formed byte =

@@ -186,6 +186,92 @@ CUT = [
 ]
 
 
+# Spellings of numbers: the bytes, and the number or why they are refused.
+# 624485 and -123456 are the usual examples of LEB128; others are those of section 5.2.2 of the standard.
+CUT_SHORT, TOO_LONG, SPARE_BITS = "cut short", "too long", "spare bits"
+
+U32 = [
+    ("00", 0),
+    ("03", 3),
+    ("7f", 127),
+    ("8001", 128),
+    ("e58e26", 624485),
+    ("8080808008", 2147483648),
+    ("ffffffff0f", 4294967295),
+    # Padded.
+    ("8300", 3),
+    ("e58ea68000", 624485),
+    ("8080808000", 0),
+    ("", CUT_SHORT),
+    ("ffffff", CUT_SHORT),
+    ("808080808000", TOO_LONG),
+    ("ffffffffff", TOO_LONG),
+    ("8080808010", SPARE_BITS),
+    ("ffffffff1f", SPARE_BITS),
+    ("8080808040", SPARE_BITS),
+]
+
+S32 = [
+    ("00", 0),
+    ("3f", 63),
+    ("40", -64),
+    ("7f", -1),
+    ("c000", 64),
+    ("bf7f", -65),
+    ("c0bb78", -123456),
+    ("ffffffff07", 2147483647),
+    ("8080808078", -2147483648),
+    # Padded.
+    ("fe7f", -2),
+    ("feff7f", -2),
+    ("8080808000", 0),
+    ("ffffffff7f", -1),
+    ("ffffffff", CUT_SHORT),
+    ("8080808080", TOO_LONG),
+    ("ffffffffff7f", TOO_LONG),
+    # Spare bits that are not copies of the sign.
+    ("8080808008", SPARE_BITS),
+    ("ffffffff0f", SPARE_BITS),
+    ("8080808070", SPARE_BITS),
+    ("ffffffff3f", SPARE_BITS),
+]
+
+S64 = [
+    ("00", 0),
+    ("7f", -1),
+    ("c0bb78", -123456),
+    ("ff" * 9 + "00", 9223372036854775807),
+    ("80" * 9 + "7f", -9223372036854775808),
+    # Padded.
+    ("80" * 9 + "00", 0),
+    ("ff" * 9 + "7f", -1),
+    ("ff" * 8 + "80", CUT_SHORT),
+    ("80" * 10, TOO_LONG),
+    ("ff" * 10 + "7f", TOO_LONG),
+    # Spare bits that are not copies of the sign.
+    ("80" * 9 + "01", SPARE_BITS),
+    ("ff" * 9 + "01", SPARE_BITS),
+    ("ff" * 9 + "7e", SPARE_BITS),
+]
+
+
+def numbers():
+    """Each spelling as the immediate of an operator: local.get, i32.const, i64.const."""
+    kinds = ((U32, "20", "LocalGet(%d)", 32, 5), (S32, "41", "ConstI32(%d)", 32, 5), (S64, "42", "ConstI64(%d)", 64, 10))
+    for spellings, operator, text, bits, most in kinds:
+        for spelling, number in spellings:
+            if number == CUT_SHORT:
+                yield "00" + operator + spelling, refused(1, 2 + len(spelling) // 2)
+            elif number == TOO_LONG:
+                yield "00" + operator + spelling + "0b", refused(2, 2)
+            elif number == SPARE_BITS:
+                yield "00" + operator + spelling + "0b", refused(3, 2)
+            else:
+                yield "00" + operator + spelling + "0b", alone(text % (number % (1 << bits)))
+        for length in range(most):
+            yield "00" + operator + "80" * length, refused(1, 2 + length)
+
+
 def deep(depth, last):
     """Blocks one in another; the last one has this block type. Each is closed."""
     return "00" + "0240" * (depth - 1) + "02" + last + "0b" * depth + "0b"
@@ -209,6 +295,7 @@ def rows():
         for first, last in runs:
             for byte in range(first, last + 1):
                 yield "00%02x" % byte, refused(number, 1)
+    yield from numbers()
     yield from BODIES
     for spelling, number, place in REFUSALS:
         yield spelling, refused(number, place)

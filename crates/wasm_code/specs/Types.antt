@@ -1,4 +1,4 @@
--- Value types and block types (WebAssembly Core 1.0, sections 5.3.1 and 5.4.1).
+-- Value types and block types (WebAssembly Core 1.0, sections 5.3.1 and 5.3.2).
 use Rattle.std.specs.Prelude.{◌≡◌, ◌⊎◌, ℕ, ◌==◌, ◌||◌, Option, Some, None, if◌then◌else◌, Ok, Err}
 use Rattle.wasm_ops.specs.declared.faults.Fault.{Fault}
 use Rattle.wasm_ops.specs.declared.types.ValType.{ValType}
@@ -46,6 +46,15 @@ ReadsBlockType = ReadsAs block_type_of
 
 abbrev pub RefusesBlockType : (before : Input) (fault : Fault) → Type 0
 RefusesBlockType = RefusesAs block_type_of
+
+-- where a byte was read, the place behind it, else this one
+abbrev pub read_behind : Input → Read ℕ → Input
+read_behind before (Ok read) = read.1
+read_behind before (Err fault) = before
+
+-- behind the byte that comes next, if there is one
+abbrev pub behind_byte : Input → Input
+behind_byte before = read_behind before (byte_from before)
 
 -- The same as functions.
 

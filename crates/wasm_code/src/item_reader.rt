@@ -14,7 +14,7 @@ use wasm_ops::{Cursor, Refusal};
 // The most blocks that are open at once.
 const MOST_BLOCKS: usize = 1000;
 
-/// The next item, where so many blocks are open. The labels of a `br_table` are added to the targets. Refused: 10 at a block too deep.
+/// The next item, where so many blocks are open. The labels of a `br_table` are added to the targets. Refused: `TooDeep` at a block too deep.
 pub(crate) fn read_item(
     depth: usize,
     targets: &mut Vec<u32>,

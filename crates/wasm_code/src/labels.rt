@@ -10,7 +10,7 @@ use wasm_ops::{Cursor, Op, Refusal};
 // The most labels beside the default.
 const MOST_TARGETS: u32 = 4096;
 
-/// A `br_table` behind its byte. Its labels are added to the targets, the default last. Refused: 12 at a count of too many labels.
+/// A `br_table` behind its byte. Its labels are added to the targets, the default last. Refused: `TooManyTargets` at a count of too many labels.
 pub(crate) fn branch_table(targets: &mut Vec<u32>, cursor: &mut Cursor<'_>) -> Result<Op, CodeFault>
     requires few { length targets.old.items < 2 ^ 32 }
     ensures { Gives (λ op. ((item.Operator op, targets.new.items), cursor.new)) result (table_from targets.old.items cursor.old) }

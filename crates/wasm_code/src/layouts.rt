@@ -57,7 +57,7 @@ fn store(access: &Access, cursor: &mut Cursor<'_>) -> Result<Op, Fault>
     })
 }
 
-// The operator behind whose byte, or whose index, a byte 00 stands. Refused: 13 for another byte.
+// The operator behind whose byte, or whose index, a byte 00 stands. Refused: `Reserved` for another byte.
 fn reserved(op: &Op, cursor: &mut Cursor<'_>) -> Result<Op, Fault>
     ensures { Tells (λ op. (op, cursor.new)) result (zero_from op.now cursor.old) }
 {

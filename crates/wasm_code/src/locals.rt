@@ -11,7 +11,7 @@ use wasm_ops::{Cursor, Refusal, ValType};
 // The most locals, all groups counted.
 const MOST_LOCALS: usize = 1024;
 
-/// The types of the locals, group by group. Refused: 11 at the count of a group by which there are too many.
+/// The types of the locals, group by group. Refused: `TooManyLocals` at the count of a group by which there are too many.
 pub(crate) fn read_locals(alloc: Global, cursor: &mut Cursor<'_>) -> Result<Vec<ValType>, CodeFault>
     ensures { Gives (λ locals. (locals.items, cursor.new)) result (locals_from cursor.old) }
 {

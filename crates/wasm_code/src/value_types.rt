@@ -1,17 +1,18 @@
-//! Value types and block types (WebAssembly Core 1.0, sections 5.3.1 and 5.4.1).
-ghost use Rattle.std.specs.Prelude.{◌≡◌};
+//! Value types and block types (WebAssembly Core 1.0, sections 5.3.1 and 5.3.2).
+ghost use Rattle.std.specs.Prelude.{◌≡◌, OnErr};
 ghost use Rattle.wasm_code.specs.Faults.{Tells};
 ghost use Rattle.wasm_ops.specs.Refusals.{fault_at};
-ghost use Rattle.wasm_code.specs.Types.{type_of, block_type_of, no_type, type_from, block_type_from};
+ghost use Rattle.wasm_code.specs.Types.{type_of, block_type_of, no_type, type_from, block_type_from, behind_byte};
 
 use wasm_ops::{Cursor, Fault, Refusal, ValType};
 
 /// The value type that the next byte is (WebAssembly Core 1.0, section 5.3.1): `7F` for `i32`, `7E` for `i64`.
 ///
-/// Refused: 1 where no byte is left, at the window's end; 7 for a float type (`7D` for `f32`, `7C` for `f64`) and 8 for a byte that is no type, both at that byte.
-/// Where it is refused, nothing is said of where the cursor stands.
+/// Refused: as a cut where no byte is left, at the window's end; `FloatType` for a float type (`7D` for `f32`, `7C` for `f64`) and `BadType` for a byte that is no type, both at that byte.
+/// Where it is refused, the cursor stands behind the byte, if there is one.
 pub fn value_type(cursor: &mut Cursor<'_>) -> Result<ValType, Fault>
-    ensures { Tells (λ value. (value, cursor.new)) result (type_from cursor.old) }
+    ensures value { Tells (λ value. (value, cursor.new)) result (type_from cursor.old) }
+    ensures stands { OnErr result (cursor.new ≡ behind_byte cursor.old) }
 {
     let at = cursor.at();
     let byte = cursor.byte()?;

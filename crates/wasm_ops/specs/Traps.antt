@@ -1,4 +1,4 @@
--- What a reply says of each trap. The words are those of the test suite of WebAssembly Core 1.0.
+-- What a reply says of each trap (WebAssembly Core 1.0, section 4.2.2). The words are those of the test suite of WebAssembly Core 1.0.
 use Rattle.std.specs.Prelude.{ℕ, List, codes}
 use Rattle.wasm_ops.specs.declared.traps.Trap.{Trap}
 use Rattle.wasm_ops.specs.declared.traps.Trap.TheVariants.{Unreachable, DivideByZero, IntegerOverflow, OutOfBounds, UndefinedElement, UninitializedElement, TypeMismatch, StackExhausted}

@@ -1,13 +1,9 @@
-//! Spellings by a table, and the places of their refusals.
-//!
-//! 624485 and -123456 are the usual examples of LEB128; others are those of section 5.2.2 of the standard.
+//! Names by a table, and the places of their refusals. The program `body_table` reads the spellings of numbers.
 
 use crate::{Cursor, Fault};
 use std::process::Abort;
 
 const CUT_SHORT: u8 = 1;
-
-const TOO_LONG: u8 = 2;
 
 const SPARE_BITS: u8 = 3;
 
@@ -30,118 +26,6 @@ fn expect_place(rt: &impl Abort, cursor: &Cursor<'_>, found: bool) {
 
 fn refused<T>(number: u8, place: u32) -> Result<T, Fault> {
     Err(Fault { number, place })
-}
-
-#[test]
-fn unsigned_numbers(rt: HostRuntime) {
-    let rows: [(&[u8], Result<u32, Fault>); 17] = [
-        (&[0x00], Ok(0)),
-        (&[0x03], Ok(3)),
-        (&[0x7F], Ok(127)),
-        (&[0x80, 0x01], Ok(128)),
-        (&[0xE5, 0x8E, 0x26], Ok(624_485)),
-        (&[0x80, 0x80, 0x80, 0x80, 0x08], Ok(2_147_483_648)),
-        (&[0xFF, 0xFF, 0xFF, 0xFF, 0x0F], Ok(4_294_967_295)),
-        // Padded.
-        (&[0x83, 0x00], Ok(3)),
-        (&[0xE5, 0x8E, 0xA6, 0x80, 0x00], Ok(624_485)),
-        (&[0x80, 0x80, 0x80, 0x80, 0x00], Ok(0)),
-        (&[], refused(CUT_SHORT, 0)),
-        (&[0xFF, 0xFF, 0xFF], refused(CUT_SHORT, 3)),
-        (&[0x80, 0x80, 0x80, 0x80, 0x80, 0x00], refused(TOO_LONG, 0)),
-        (&[0xFF, 0xFF, 0xFF, 0xFF, 0xFF], refused(TOO_LONG, 0)),
-        (&[0x80, 0x80, 0x80, 0x80, 0x10], refused(SPARE_BITS, 0)),
-        (&[0xFF, 0xFF, 0xFF, 0xFF, 0x1F], refused(SPARE_BITS, 0)),
-        (&[0x80, 0x80, 0x80, 0x80, 0x40], refused(SPARE_BITS, 0)),
-    ];
-    for (bytes, want) in rows {
-        let mut cursor = whole(&rt, bytes);
-        assert_eq!(rt; cursor.u32_leb(), want, "{bytes:?}");
-        expect_place(&rt, &cursor, want.is_ok());
-    }
-}
-
-#[test]
-fn signed_numbers_of_32_bits(rt: HostRuntime) {
-    let rows: [(&[u8], Result<i32, Fault>); 20] = [
-        (&[0x00], Ok(0)),
-        (&[0x3F], Ok(63)),
-        (&[0x40], Ok(-64)),
-        (&[0x7F], Ok(-1)),
-        (&[0xC0, 0x00], Ok(64)),
-        (&[0xBF, 0x7F], Ok(-65)),
-        (&[0xC0, 0xBB, 0x78], Ok(-123_456)),
-        (&[0xFF, 0xFF, 0xFF, 0xFF, 0x07], Ok(2_147_483_647)),
-        (&[0x80, 0x80, 0x80, 0x80, 0x78], Ok(-2_147_483_648)),
-        // Padded.
-        (&[0xFE, 0x7F], Ok(-2)),
-        (&[0xFE, 0xFF, 0x7F], Ok(-2)),
-        (&[0x80, 0x80, 0x80, 0x80, 0x00], Ok(0)),
-        (&[0xFF, 0xFF, 0xFF, 0xFF, 0x7F], Ok(-1)),
-        (&[0xFF, 0xFF, 0xFF, 0xFF], refused(CUT_SHORT, 4)),
-        (&[0x80, 0x80, 0x80, 0x80, 0x80], refused(TOO_LONG, 0)),
-        (&[0xFF, 0xFF, 0xFF, 0xFF, 0xFF, 0x7F], refused(TOO_LONG, 0)),
-        // Spare bits that are not copies of the sign.
-        (&[0x80, 0x80, 0x80, 0x80, 0x08], refused(SPARE_BITS, 0)),
-        (&[0xFF, 0xFF, 0xFF, 0xFF, 0x0F], refused(SPARE_BITS, 0)),
-        (&[0x80, 0x80, 0x80, 0x80, 0x70], refused(SPARE_BITS, 0)),
-        (&[0xFF, 0xFF, 0xFF, 0xFF, 0x3F], refused(SPARE_BITS, 0)),
-    ];
-    for (bytes, want) in rows {
-        let mut cursor = whole(&rt, bytes);
-        let read = cursor.s32_leb().map(|number| number.cast_signed());
-        assert_eq!(rt; read, want, "{bytes:?}");
-        expect_place(&rt, &cursor, want.is_ok());
-    }
-}
-
-#[test]
-fn signed_numbers_of_64_bits(rt: HostRuntime) {
-    const ONES: [u8; 11] = [0xFF; 11];
-    const ZEROS: [u8; 11] = [0x80; 11];
-    let rows: [(&[u8], u8, Result<i64, Fault>); 13] = [
-        (&[], 0x00, Ok(0)),
-        (&[], 0x7F, Ok(-1)),
-        (&[0xC0, 0xBB], 0x78, Ok(-123_456)),
-        (&ONES[..9], 0x00, Ok(9_223_372_036_854_775_807)),
-        (&ZEROS[..9], 0x7F, Ok(-9_223_372_036_854_775_808)),
-        // Padded.
-        (&ZEROS[..9], 0x00, Ok(0)),
-        (&ONES[..9], 0x7F, Ok(-1)),
-        (&ONES[..8], 0x80, refused(CUT_SHORT, 9)),
-        (&ZEROS[..9], 0x80, refused(TOO_LONG, 0)),
-        (&ONES[..10], 0x7F, refused(TOO_LONG, 0)),
-        // Spare bits that are not copies of the sign.
-        (&ZEROS[..9], 0x01, refused(SPARE_BITS, 0)),
-        (&ONES[..9], 0x01, refused(SPARE_BITS, 0)),
-        (&ONES[..9], 0x7E, refused(SPARE_BITS, 0)),
-    ];
-    for (front, last, want) in rows {
-        let mut bytes = [0; 11];
-        assert!(rt; front.len() < 11);
-        bytes[..front.len()].copy_from_slice(front);
-        bytes[front.len()] = last;
-        let mut cursor = whole(&rt, &bytes[..front.len() + 1]);
-        let read = cursor.s64_leb().map(|number| number.cast_signed());
-        assert_eq!(rt; read, want, "{front:?} {last}");
-        expect_place(&rt, &cursor, want.is_ok());
-    }
-}
-
-#[test]
-fn numbers_cut_at_each_length(rt: HostRuntime) {
-    let bytes = [0x80; 10];
-    for len in 0..10 {
-        let refused = Fault {
-            number: CUT_SHORT,
-            place: len as u32,
-        };
-        assert_eq!(rt; whole(&rt, &bytes[..len]).s64_leb(), Err(refused));
-        if len < 5 {
-            assert_eq!(rt; whole(&rt, &bytes[..len]).u32_leb(), Err(refused));
-            assert_eq!(rt; whole(&rt, &bytes[..len]).s32_leb(), Err(refused));
-        }
-    }
 }
 
 #[test]

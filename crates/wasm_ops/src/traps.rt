@@ -1,4 +1,4 @@
-//! Traps: how a function may end without a result (WebAssembly Core 1.0, section 4.2.1).
+//! Traps: how a function may end without a result (WebAssembly Core 1.0, section 4.2.2).
 ghost use Rattle.std.specs.Prelude.{◌≡◌};
 ghost use Rattle.wasm_ops.specs.Traps.{trap_text};
 

@@ -1,18 +1,16 @@
 -- The bodies of functions are read as their syntaxes have them.
 use Rattle.std.proofs.Common.{◌⊎◌, inl, inr, ℕ, ap, sym, ◌∙◌, subst}
 use Rattle.wasm_ops.specs.declared.faults.Fault.{Fault}
+use Rattle.wasm_ops.specs.declared.faults.Refusal.TheVariants.{CutShort, CountsDiffer}
 use Rattle.wasm_ops.specs.declared.modules.Body.{Body}
 use Rattle.wasm_ops.specs.Input.{Input}
 use Rattle.wasm_code.specs.Bodies.{SpellsBody, RefusesBody}
 use Rattle.wasm_code.proofs.BodyLaws.{either, body_or_fault, one_body, one_refusal}
 use Rattle.wasm_code.proofs.Decisions.{Decides, read_parts, read_same, fault_same}
-use Rattle.wasm_reader.specs.Syntax.{Syntax, or_fault}
-use Rattle.wasm_reader.specs.Bodies.{section_fault, in_section, moved, end_place, body_answer, body, sized_body, same_count, bodies}
-use Rattle.wasm_reader.proofs.SyntaxLaws.{IsDecidedBy, number_decided, bytes_decided, checked_decided, refused_as_decided, inside_decided, ◌⨾⨾◌}
+use Rattle.wasm_reader.specs.Syntax.{or_fault}
+use Rattle.wasm_reader.specs.Bodies.{moved, end_place, body_answer, body, sized_body, same_count, bodies}
+use Rattle.wasm_reader.proofs.SyntaxLaws.{IsDecidedBy, number_decided, checked_decided, inside_decided, ◌⨾⨾◌}
 use Rattle.wasm_reader.proofs.ItemLaws.{items_decided}
-
-pub in_section_decided : {A : Type 0} {s : Syntax A} → IsDecidedBy s → IsDecidedBy (in_section s)
-in_section_decided one = refused_as_decided section_fault one
 
 -- whichever of the two the bytes are
 answer_decides
@@ -41,10 +39,9 @@ answer_decides before (inr refused) =
 pub body_decided : IsDecidedBy body
 body_decided = record { decides = λ before. answer_decides before (either before.left) }
 
-sized_body_decided : IsDecidedBy sized_body
-sized_body_decided = in_section_decided number_decided ⨾⨾ λ size. inside_decided (in_section_decided (bytes_decided size)) body_decided
+pub sized_body_decided : IsDecidedBy sized_body
+sized_body_decided = number_decided ⨾⨾ λ size. inside_decided size CutShort body_decided
 
 pub bodies_decided : (functions : ℕ) → IsDecidedBy (bodies functions)
 bodies_decided functions =
-    in_section_decided (checked_decided (same_count functions) (or_fault 20) number_decided) ⨾⨾ λ count.
-    items_decided count (λ so_far. sized_body_decided)
+    checked_decided (same_count functions) (or_fault CountsDiffer) number_decided ⨾⨾ λ count. items_decided count (λ so_far. sized_body_decided)

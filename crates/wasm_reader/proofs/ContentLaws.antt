@@ -1,11 +1,13 @@
 -- What the sections of a module hold is read as the syntaxes have it.
 use Rattle.std.proofs.Common.{ℕ, List}
+use Rattle.wasm_ops.specs.declared.faults.Refusal.TheVariants.{TooLarge, BadKind}
 use Rattle.wasm_ops.specs.declared.modules.Import.{Import}
 use Rattle.wasm_ops.specs.declared.modules.ImportItem.TheVariants as item
+use Rattle.wasm_ops.specs.Limits.{most_functions, most_globals, most_types, imported_functions, imported_globals}
 use Rattle.wasm_reader.specs.declared.imports.ImportKind.{ImportKind}
 use Rattle.wasm_reader.specs.declared.imports.ImportKind.TheVariants as kind
 use Rattle.wasm_reader.specs.Syntax.{or_fault}
-use Rattle.wasm_reader.specs.Contents.{most_functions, most_globals, most_types, types, imported_functions, imported_globals, kind_of, with_room, import_kind, import_item, as_import, import_behind, imports, functions, tables, memories, as_global, global, globals, as_kind, as_export, export, exports, as_element, element, elements, as_segment, segment, segments}
+use Rattle.wasm_reader.specs.Contents.{types, kind_of, with_room, import_kind, import_item, as_import, import_behind, imports, functions, tables, memories, as_global, global, globals, as_kind, as_export, export, exports, as_element, element, elements, as_segment, segment, segments}
 use Rattle.wasm_reader.proofs.SyntaxLaws.{IsDecidedBy, byte_decided, number_decided, bytes_decided, seen_decided, checked_decided, ◌⨾⨾◌}
 use Rattle.wasm_reader.proofs.ItemLaws.{items_decided, vector_decided, vector_within_decided}
 use Rattle.wasm_reader.proofs.PartLaws.{name_decided, value_type_decided, mutability_decided, table_decided, memory_decided, constant_decided, function_type_decided}
@@ -17,7 +19,7 @@ types_decided = vector_within_decided 0 most_types function_type_decided
 
 import_kind_decided : (functions globals : ℕ) → IsDecidedBy (import_kind functions globals)
 import_kind_decided functions globals =
-    checked_decided (with_room functions globals) (or_fault 21) (checked_decided kind_of (or_fault 22) byte_decided)
+    checked_decided (with_room functions globals) (or_fault TooLarge) (checked_decided kind_of (or_fault BadKind) byte_decided)
 
 import_item_decided : (k : ImportKind) → IsDecidedBy (import_item k)
 import_item_decided kind.Function = seen_decided item.Function number_decided
@@ -52,7 +54,7 @@ globals_decided imported = vector_within_decided (imported_globals imported) mos
 -- Exports and segments.
 
 export_decided : IsDecidedBy export
-export_decided = name_decided ⨾⨾ λ own. checked_decided as_kind (or_fault 22) byte_decided ⨾⨾ λ k. seen_decided (as_export own k) number_decided
+export_decided = name_decided ⨾⨾ λ own. checked_decided as_kind (or_fault BadKind) byte_decided ⨾⨾ λ k. seen_decided (as_export own k) number_decided
 
 pub exports_decided : IsDecidedBy exports
 exports_decided = vector_decided export_decided

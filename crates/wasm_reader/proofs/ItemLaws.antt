@@ -1,6 +1,7 @@
 -- Items one behind another, and vectors, are read as the syntax has them.
 use Rattle.std.proofs.Common.{◌≡◌, ◌⊎◌, inl, inr, ℕ, suc, zero, ◌<◌, List, [], ◌∷◌, ◌++◌, length, refl, ap, sym, ◌∙◌, subst, arith, append_assoc, append-nil}
 use Rattle.wasm_ops.specs.declared.faults.Fault.{Fault}
+use Rattle.wasm_ops.specs.declared.faults.Refusal.TheVariants.{TooLarge}
 use Rattle.wasm_ops.specs.Input.{Input}
 use Rattle.wasm_code.proofs.Decisions.{Decides, and_then_decides, told_decides, stands_decides}
 use Rattle.wasm_reader.specs.Syntax.{Syntax, ReadsItems, items_from, items, within_limit, limited, vector, vector_within, or_fault}
@@ -129,7 +130,7 @@ items_decided {A} count {item} each =
 -- Vectors.
 
 pub limited_decided : (before most : ℕ) → IsDecidedBy (limited before most)
-limited_decided before most = checked_decided (within_limit before most) (or_fault 21) number_decided
+limited_decided before most = checked_decided (within_limit before most) (or_fault TooLarge) number_decided
 
 pub vector_decided : {A : Type 0} {item : Syntax A} → IsDecidedBy item → IsDecidedBy (vector item)
 vector_decided one = number_decided ⨾⨾ λ count. items_decided count (λ so_far. one)

@@ -10,4 +10,3 @@ pub mod SectionLaws
 pub mod SectionSteps
 pub mod StepLaws
 pub mod SyntaxLaws
-pub mod Tails

@@ -2,10 +2,12 @@
 use Rattle.std.proofs.Common.{◌≡◌, ◌⊎◌, inl, inr, ℕ, ◌≤◌, List, [], ◌∷◌, length, Ok, Err, refl, ap, sym, ◌∙◌, arith}
 use Rattle.std.proofs.lemmas.Bool.{cases_lt}
 use Rattle.wasm_ops.specs.declared.faults.Fault.{Fault}
+use Rattle.wasm_ops.specs.declared.faults.Refusal.TheVariants.{BadMagic, BadVersion, CountsDiffer, TooLarge}
+use Rattle.wasm_ops.specs.Refusals.{fault_at}
 use Rattle.wasm_ops.specs.declared.modules.Module.{Module}
 use Rattle.wasm_ops.specs.Input.{Input}
 use Rattle.wasm_code.specs.Bodies.{beginning}
-use Rattle.wasm_code.specs.Reading.{Read, fault_at}
+use Rattle.wasm_code.specs.Reading.{Read}
 use Rattle.wasm_code.proofs.Decisions.{Decides}
 use Rattle.wasm_reader.specs.Syntax.{or_fault}
 use Rattle.wasm_reader.specs.Parts.{this}
@@ -20,12 +22,12 @@ opens_with_decided fault (next ∷ more) =
     checked_decided (this next) (always fault) byte_decided ⨾⨾ λ found. opens_with_decided fault more
 
 pub header_decided : IsDecidedBy header
-header_decided = opens_with_decided (fault_at 15 0) magic ⨾⨾ λ begun. opens_with_decided (fault_at 16 4) version
+header_decided = opens_with_decided (fault_at BadMagic 0) magic ⨾⨾ λ begun. opens_with_decided (fault_at BadVersion 4) version
 
 pub whole_module_decided : IsDecidedBy whole_module
 whole_module_decided =
     header_decided ⨾⨾ λ begun. to_end_decided at_start one_section_decided one_section_takes ⨾⨾ λ done.
-    checked_decided complete (or_fault 20) (given_decided done)
+    checked_decided complete (or_fault CountsDiffer) (given_decided done)
 
 -- What is decided is one of the two, in one way.
 
@@ -76,7 +78,7 @@ either_at bytes (Err fault) small e = inr (fault, refused_from bytes fault small
 
 pub either : (bytes : List ℕ) → IsEither bytes
 either bytes = elim (cases_lt most_bytes (length bytes)) [
-  | inl large ↦ inr (fault_at 21 0, inl record { large = large; told = refl })
+  | inl large ↦ inr (fault_at TooLarge 0, inl record { large = large; told = refl })
   | inr small ↦ either_at bytes (whole_module.read (beginning bytes)) small refl
 ]
 

@@ -1,23 +1,61 @@
 -- The parts of a module are read as their syntaxes have them.
-use Rattle.std.proofs.Common.{◌≡◌, ℕ, suc, zero, Bool, true, false, Option, Some, None, arith}
+use Rattle.std.proofs.Common.{◌≡◌, ℕ, suc, zero, Bool, true, false, List, Option, Some, None, Ok, Err, refl, ◌∙◌, arith}
+use Rattle.wasm_ops.specs.declared.faults.Fault.{Fault}
+use Rattle.wasm_ops.specs.declared.faults.Refusal.TheVariants.{BadType, BadKind, BadLimits, BadConstant}
 use Rattle.wasm_ops.specs.declared.numbers.Sign.TheVariants.{Signed}
 use Rattle.wasm_ops.specs.declared.types.ValType.{ValType}
 use Rattle.wasm_ops.specs.declared.types.ValType.TheVariants.{I32, I64}
 use Rattle.wasm_ops.specs.Input.{Input, byte_from}
-use Rattle.wasm_code.specs.Reading.{fault_at, ReadsByte, LacksByte}
+use Rattle.wasm_ops.specs.Limits.{most_elements, most_parameters, most_results}
+use Rattle.wasm_ops.specs.Refusals.{fault_at}
+use Rattle.wasm_ops.specs.NameInput.{ReadsText, RefusesName, text_from}
+use Rattle.wasm_ops.proofs.NameLaws.{text_taken}
+use Rattle.wasm_code.specs.Reading.{Read, ReadsByte, LacksByte}
 use Rattle.wasm_code.specs.Types.{type_of, no_type, typed}
-use Rattle.wasm_code.proofs.Decisions.{Decides, and_then_decides, byte_decides}
+use Rattle.wasm_code.proofs.Decisions.{Decides, read_same, fault_same, and_then_decides, byte_decides}
 use Rattle.wasm_reader.specs.Syntax.{or_fault}
-use Rattle.wasm_reader.specs.Parts.{this, tag, as_text, name, value_type, flag_of, mutability, greatest, bounds, limits, most_elements, table, memory, constant_of, no_constant, constant_bits, as_constant, constant, most_parameters, most_results, result_of, as_function_type, function_type}
+use Rattle.wasm_reader.specs.Parts.{this, tag, name, value_type, flag_of, mutability, greatest, bounds, limits, table, memory, constant_of, no_constant, constant_bits, as_constant, constant, result_of, as_function_type, function_type}
 use Rattle.wasm_reader.specs.Syntax.{Syntax}
-use Rattle.wasm_reader.proofs.SyntaxLaws.{IsDecidedBy, byte_decided, integer_decided, number_decided, bytes_decided, given_decided, seen_decided, known_decides, checked_decided, ◌⨾⨾◌}
+use Rattle.wasm_reader.proofs.SyntaxLaws.{IsDecidedBy, byte_decided, integer_decided, number_decided, given_decided, seen_decided, known_decides, checked_decided, ◌⨾⨾◌}
 use Rattle.wasm_reader.proofs.ItemLaws.{limited_decided, vector_within_decided}
 
 pub tag_decided : (wanted : ℕ) → IsDecidedBy (tag wanted)
-tag_decided wanted = checked_decided (this wanted) (or_fault 8) byte_decided
+tag_decided wanted = checked_decided (this wanted) (or_fault BadType) byte_decided
+
+-- Names: what the cursor's laws say of their texts, both ways.
+
+text_only
+    : (before : Input) (text : List ℕ) (after : Input) (read : Read (List ℕ)) → text_from before ≡ read → ReadsText before text after
+    → text_from before ≡ Ok (text, after)
+text_only before text after (Ok read) e reads =
+    let same = (text_taken (Ok read.0) before read.1 e).only text after reads in
+    let texts = same.0 in
+    let equal : read.0 ≡ text = cc in
+    e ∙ read_same read.0 text read.1 after equal same.1
+text_only before text after (Err fault) e reads =
+    let same = ((text_taken (Err fault) before before (e, refl)).only text after reads).0 in
+    let bad : ⊥ = cc in absurd bad
+
+text_fails
+    : (before : Input) (fault : Fault) (read : Read (List ℕ)) → text_from before ≡ read → RefusesName before fault → text_from before ≡ Err fault
+text_fails before fault (Ok read) e refuses =
+    let same = (text_taken (Ok read.0) before read.1 e).only_refused fault refuses in
+    let bad : ⊥ = cc in absurd bad
+text_fails before fault (Err other) e refuses =
+    let same = (text_taken (Err other) before before (e, refl)).only_refused fault refuses in
+    let equal : other ≡ fault = cc in
+    e ∙ fault_same other fault equal
 
 pub name_decided : IsDecidedBy name
-name_decided = number_decided ⨾⨾ λ count. checked_decided as_text (or_fault 4) (bytes_decided count)
+name_decided =
+    record {
+      decides = λ before. record {
+        found = λ text after e. (text_taken (Ok text) before after e).found;
+        only = λ text after reads. text_only before text after (text_from before) refl reads;
+        refused = λ fault e. (text_taken (Err fault) before before (e, refl)).refused;
+        only_refused = λ fault refuses. text_fails before fault (text_from before) refl refuses;
+      };
+    }
 
 -- Types.
 
@@ -39,7 +77,7 @@ value_type_decided =
     }
 
 pub mutability_decided : IsDecidedBy mutability
-mutability_decided = checked_decided flag_of (or_fault 22) byte_decided
+mutability_decided = checked_decided flag_of (or_fault BadKind) byte_decided
 
 -- Limits.
 
@@ -49,7 +87,7 @@ greatest_decided true = seen_decided (λ most. Some most) number_decided
 
 pub limits_decided : {least_size : Syntax ℕ} → IsDecidedBy least_size → IsDecidedBy (limits least_size)
 limits_decided least_decided =
-    checked_decided flag_of (or_fault 23) byte_decided ⨾⨾ λ has_most. least_decided ⨾⨾ λ least. seen_decided (bounds least) (greatest_decided has_most)
+    checked_decided flag_of (or_fault BadLimits) byte_decided ⨾⨾ λ has_most. least_decided ⨾⨾ λ least. seen_decided (bounds least) (greatest_decided has_most)
 
 pub table_decided : IsDecidedBy table
 table_decided = tag_decided 0x70 ⨾⨾ λ kind. limits_decided (limited_decided 0 most_elements)
@@ -66,7 +104,7 @@ bits_decided I64 = integer_decided Signed 64 (omega arith)
 pub constant_decided : IsDecidedBy constant
 constant_decided =
     checked_decided constant_of (λ at b. or_fault (no_constant b) at b) byte_decided ⨾⨾ λ value. bits_decided value ⨾⨾ λ bits.
-    checked_decided (this 0x0B) (or_fault 24) byte_decided ⨾⨾ λ end. given_decided (as_constant value bits)
+    checked_decided (this 0x0B) (or_fault BadConstant) byte_decided ⨾⨾ λ end. given_decided (as_constant value bits)
 
 -- Function types.
 

@@ -1,5 +1,6 @@
 -- The sections of a module are read as their syntaxes have them, and each takes a byte.
-use Rattle.std.proofs.Common.{ℕ, ◌<◌, ◌≤◌, List, length, Option, Some, ap, arith, length-append}
+use Rattle.std.proofs.Common.{◌≡◌, ℕ, ◌<◌, ◌≤◌, List, length, Option, Some, Ok, ap, arith, length-append}
+use Rattle.wasm_ops.specs.declared.faults.Refusal.TheVariants.{SectionOrder, SectionSize, UnknownSection}
 use Rattle.wasm_ops.specs.declared.modules.Module.{Module}
 use Rattle.wasm_ops.specs.declared.numbers.Sign.TheVariants.{Unsigned}
 use Rattle.wasm_ops.specs.Input.{Input}
@@ -12,15 +13,15 @@ use Rattle.wasm_reader.specs.declared.sections.Section.{Section}
 use Rattle.wasm_reader.specs.declared.sections.Section.TheVariants as section
 use Rattle.wasm_reader.specs.declared.sections.Progress.{Progress}
 use Rattle.wasm_reader.specs.Syntax.{ReadsBytes, or_fault}
-use Rattle.wasm_reader.specs.Sections.{section_of, rising, section_id, part_of, told_in, content, after_part, section_content, one_section}
-use Rattle.wasm_reader.proofs.SyntaxLaws.{IsDecidedBy, byte_decided, number_decided, bytes_decided, given_decided, seen_decided, checked_decided, refused_as_decided, inside_decided, exactly_decided, ◌⨾⨾◌}
+use Rattle.wasm_reader.specs.Sections.{section_of, rising, section_id, part_of, after_part, section_content, one_section}
+use Rattle.wasm_reader.proofs.SyntaxLaws.{IsDecidedBy, byte_decided, number_decided, given_decided, seen_decided, checked_decided, inside_decided, exactly_decided, ◌⨾⨾◌}
 use Rattle.wasm_reader.proofs.StepLaws.{TakesBytes}
 use Rattle.wasm_reader.proofs.PartLaws.{name_decided}
 use Rattle.wasm_reader.proofs.ContentLaws.{types_decided, imports_decided, functions_decided, tables_decided, memories_decided, globals_decided, exports_decided, elements_decided, segments_decided}
-use Rattle.wasm_reader.proofs.BodyLaws.{in_section_decided, bodies_decided}
+use Rattle.wasm_reader.proofs.BodyLaws.{bodies_decided}
 
 pub section_id_decided : (last : Option Part) → IsDecidedBy (section_id last)
-section_id_decided last = checked_decided (rising last) (or_fault 17) (checked_decided section_of (or_fault 19) byte_decided)
+section_id_decided last = checked_decided (rising last) (or_fault SectionOrder) (checked_decided section_of (or_fault UnknownSection) byte_decided)
 
 part_decided : (p : Part) (m : Module) → IsDecidedBy (part_of p m)
 part_decided part.Types m = seen_decided (λ xs. record m { types = xs }) types_decided
@@ -35,16 +36,13 @@ part_decided part.Elements m = seen_decided (λ xs. record m { elements = xs }) 
 part_decided part.Bodies m = seen_decided (λ xs. record m { bodies = xs }) (bodies_decided (length m.functions))
 part_decided part.Segments m = seen_decided (λ xs. record m { segments = xs }) segments_decided
 
-content_decided : (p : Part) (m : Module) → IsDecidedBy (content p m)
-content_decided p m = refused_as_decided (told_in p) (part_decided p m)
-
 section_content_decided : (s : Section) (so_far : Progress) → IsDecidedBy (section_content s so_far)
-section_content_decided section.Custom so_far = in_section_decided (name_decided ⨾⨾ λ own. given_decided so_far)
-section_content_decided (section.Part p) so_far = seen_decided (after_part p) (exactly_decided 18 (content_decided p so_far.parts))
+section_content_decided section.Custom so_far = name_decided ⨾⨾ λ own. given_decided so_far
+section_content_decided (section.Part p) so_far = seen_decided (after_part p) (exactly_decided SectionSize (part_decided p so_far.parts))
 
 pub one_section_decided : (so_far : Progress) → IsDecidedBy (one_section so_far)
 one_section_decided so_far =
-    section_id_decided so_far.last ⨾⨾ λ s. number_decided ⨾⨾ λ size. inside_decided (bytes_decided size) (section_content_decided s so_far)
+    section_id_decided so_far.last ⨾⨾ λ s. number_decided ⨾⨾ λ size. inside_decided size SectionSize (section_content_decided s so_far)
 
 -- its id is a byte, and nothing behind that gives one back
 
@@ -68,3 +66,7 @@ one_section_takes so_far =
           let counted = number_taken reads.1 sized.0 sized.1 sized.2 in
           let rest = bytes_taken sized.0 sized.1 held.0 after held.2 in omega arith;
     }
+
+pub section_shorter
+    : (so_far new : Progress) (before after : Input) → (one_section so_far).read before ≡ Ok (new, after) → length after.left < length before.left
+section_shorter so_far new before after e = (one_section_takes so_far).fewer before new after (((one_section_decided so_far).decides before).found new after e)

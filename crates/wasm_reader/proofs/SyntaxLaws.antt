@@ -4,13 +4,15 @@ use Rattle.std.proofs.lemmas.Bool.{cases_lt, le-leb, lt-leb}
 use Rattle.std.proofs.lemmas.List.{take-append-drop, length-take-le}
 use Rattle.std.proofs.Math.Seq.{take-append_seam, drop-append_seam}
 use Rattle.wasm_ops.specs.declared.faults.Fault.{Fault}
+use Rattle.wasm_ops.specs.declared.faults.Refusal.{Refusal}
 use Rattle.wasm_ops.specs.declared.numbers.Sign.{Sign}
 use Rattle.wasm_ops.specs.declared.numbers.Sign.TheVariants.{Unsigned}
-use Rattle.wasm_ops.specs.Input.{Input, cut_short, bytes_from}
+use Rattle.wasm_ops.specs.Refusals.{fault_at}
+use Rattle.wasm_ops.specs.Input.{Input, cut_short, bytes_from, window_at}
 use Rattle.wasm_ops.proofs.InputLaws.{same_input}
-use Rattle.wasm_code.specs.Reading.{Read, and_then, fault_at}
+use Rattle.wasm_code.specs.Reading.{Read, and_then}
 use Rattle.wasm_code.proofs.Decisions.{Decides, read_parts, read_same, fault_same, and_then_decides, told_decides, as_part_decides, stands_decides, byte_decides, number_decides}
-use Rattle.wasm_reader.specs.Syntax.{Syntax, byte, integer, number, ReadsBytes, bytes, given, ◌⨾◌, seen, known, checked, told, refused_as, left_at, window_at, inside, ended, exactly}
+use Rattle.wasm_reader.specs.Syntax.{Syntax, byte, integer, number, ReadsBytes, LacksBytes, bytes, given, ◌⨾◌, seen, known, checked, left_at, inside, ended, exactly}
 
 -- at each place the reader of the syntax answers what is spelt there, and refuses with the fault that the bytes have, and what it answers holds there
 pub record IsDecidedBy {A : Type 0} (s : Syntax A) : Type 0 where
@@ -28,7 +30,7 @@ pub number_decided : IsDecidedBy number
 number_decided = integer_decided Unsigned 32 (omega arith)
 
 abbrev behind_bytes : (count : ℕ) → Input → Input
-behind_bytes count before = record { at = before.at + count; left = drop count before.left }
+behind_bytes count before = record { at = before.at + count; left = drop count before.left; cut = before.cut }
 
 bytes_there : (count : ℕ) (before : Input) → count ≤ length before.left → bytes_from count before ≡ Ok (take count before.left, behind_bytes count before)
 bytes_there count before room = rw (le-leb count (length before.left) room) refl
@@ -38,7 +40,7 @@ bytes_lacking count before fewer = rw (lt-leb count (length before.left) fewer) 
 
 bytes_read : (count : ℕ) (before : Input) → count ≤ length before.left → ReadsBytes count before (take count before.left) (behind_bytes count before)
 bytes_read count before room =
-    record { cut = sym (take-append-drop count before.left); all = length-take-le count before.left room; behind = refl }
+    record { cut = sym (take-append-drop count before.left); all = length-take-le count before.left room; behind = refl; same_cut = refl }
 
 bytes_room : (count : ℕ) (before : Input) (xs : List ℕ) (after : Input) → ReadsBytes count before xs after → count ≤ length before.left
 bytes_room count before xs after reads =
@@ -57,7 +59,7 @@ bytes_only
 bytes_only count before xs after reads =
     let parts = split_same before.left xs after.left count reads.cut reads.all in
     bytes_there count before (bytes_room count before xs after reads)
-    ∙ read_same (take count before.left) xs (behind_bytes count before) after parts.0 (same_input (behind_bytes count before) after (sym reads.behind) parts.1)
+    ∙ read_same (take count before.left) xs (behind_bytes count before) after parts.0 (same_input (behind_bytes count before) after (sym reads.behind) parts.1 (sym reads.same_cut))
 
 bytes_found
     : (count : ℕ) (before : Input) (xs : List ℕ) (after : Input) → count ≤ length before.left → bytes_from count before ≡ Ok (xs, after)
@@ -150,32 +152,6 @@ checked_decided {A} {B} test fault {s} one =
           (λ f refuses. elim refuses [ inl fails ↦ inl fails | inr tested ↦ inr (tested.0, tested.1, tested.2, (tested.3, tested.4)) ]);
     }
 
--- Other faults.
-
-told_ok : {A : Type 0} (other : Fault → Fault) (read : Read A) (x : A) (after : Input) → told other read ≡ Ok (x, after) → read ≡ Ok (x, after)
-told_ok other (Ok read) x after e = let parts = read_parts read.0 x read.1 after e in read_same read.0 x read.1 after parts.0 parts.1
-told_ok other (Err fault) x after e = let bad : ⊥ = cc in absurd bad
-
-told_err
-    : {A : Type 0} (other : Fault → Fault) (read : Read A) (fault : Fault) → told other read ≡ Err fault
-    → (first : Fault) × (read ≡ Err first) × (fault ≡ other first)
-told_err other (Ok read) fault e = let bad : ⊥ = cc in absurd bad
-told_err other (Err first) fault e = let same : other first ≡ fault = cc in (first, refl, sym same)
-
-pub refused_as_decided : {A : Type 0} (other : Fault → Fault) {s : Syntax A} → IsDecidedBy s → IsDecidedBy (refused_as other s)
-refused_as_decided {A} other {s} one =
-    record {
-      decides = λ before. record {
-        found = λ x after e. (one.decides before).found x after (told_ok other (s.read before) x after e);
-        only = λ x after reads. ap (λ (r : Read A). told other r) ((one.decides before).only x after reads);
-        refused = λ fault e.
-            let parts = told_err other (s.read before) fault e in (parts.0, (one.decides before).refused parts.0 parts.1, parts.2);
-        only_refused = λ fault refuses.
-            ap (λ (r : Read A). told other r) ((one.decides before).only_refused refuses.0 refuses.1)
-            ∙ fault_same (other refuses.0) fault (sym refuses.2);
-      };
-    }
-
 -- A window.
 
 -- the same refusals, and what is read in other words
@@ -209,65 +185,63 @@ left_at_decides {A} after read Reads Refuses one =
       only_refused = λ fault refuses. ap (λ (r : Read A). left_at after r) (one.only_refused fault refuses);
     }
 
-pub inside_decided : {A : Type 0} {cut : Syntax (List ℕ)} {s : Syntax A} → IsDecidedBy cut → IsDecidedBy s → IsDecidedBy (inside cut s)
-inside_decided {A} {cut} {s} window_cut one =
+pub inside_decided : {A : Type 0} (count : ℕ) (why : Refusal) {s : Syntax A} → IsDecidedBy s → IsDecidedBy (inside count why s)
+inside_decided {A} count why {s} one =
     record {
       decides = λ before.
-          let next : List ℕ → Input → Read A = λ window after. left_at after (s.read (window_at before window)) in
+          let next : List ℕ → Input → Read A = λ held after. left_at after (s.read (window_at why before held)) in
           let Behind : List ℕ → Input → A → Input → Type 0 =
-          λ window there x after. (end : Input) × s.Reads (window_at before window) x end × (after ≡ there) in
-          let Fails : List ℕ → Input → Fault → Type 0 = λ window there fault. s.Refuses (window_at before window) fault in
-          reads_decides (and_then (cut.read before) next)
-          (λ x after. (window : List ℕ) × (there : Input) × cut.Reads before window there × Behind window there x after)
-          (λ x after. (window : List ℕ) × (end : Input) × cut.Reads before window after × s.Reads (window_at before window) x end)
-          (λ fault. cut.Refuses before fault ⊎ ((window : List ℕ) × (there : Input) × cut.Reads before window there × Fails window there fault))
-          (and_then_decides (cut.read before) next (cut.Reads before) (cut.Refuses before) Behind Fails
-          (window_cut.decides before)
-          (λ window there reads. left_at_decides there (s.read (window_at before window))
-          (s.Reads (window_at before window)) (s.Refuses (window_at before window)) (one.decides (window_at before window))))
+          λ held there x after. (end : Input) × s.Reads (window_at why before held) x end × (after ≡ there) in
+          let Fails : List ℕ → Input → Fault → Type 0 = λ held there fault. s.Refuses (window_at why before held) fault in
+          reads_decides (and_then (bytes_from count before) next)
+          (λ x after. (held : List ℕ) × (there : Input) × ReadsBytes count before held there × Behind held there x after)
+          (λ x after. (held : List ℕ) × (end : Input) × ReadsBytes count before held after × s.Reads (window_at why before held) x end)
+          (λ fault. LacksBytes count before fault ⊎ ((held : List ℕ) × (there : Input) × ReadsBytes count before held there × Fails held there fault))
+          (and_then_decides (bytes_from count before) next (ReadsBytes count before) (LacksBytes count before) Behind Fails
+          ((bytes_decided count).decides before)
+          (λ held there reads. left_at_decides there (s.read (window_at why before held))
+          (s.Reads (window_at why before held)) (s.Refuses (window_at why before held)) (one.decides (window_at why before held))))
           (λ x after reads.
-          let P : Input → Type 0 = λ place. cut.Reads before reads.0 place in
+          let P : Input → Type 0 = λ place. ReadsBytes count before reads.0 place in
           (reads.0, reads.3.0, subst P (sym reads.3.2) reads.2, reads.3.1))
           (λ x after reads. (reads.0, after, reads.2, (reads.1, reads.3, refl)));
     }
 
 -- Up to the end of the window.
 
-abbrev LeavesMore : (why : ℕ) → Input → Fault → Type 0
-LeavesMore why there fault = (next : ℕ) × (rest : List ℕ) × (there.left ≡ next ∷ rest) × (fault ≡ fault_at why there.at)
+abbrev LeavesMore : (why : Refusal) → (at : ℕ) → (left : List ℕ) → Fault → Type 0
+LeavesMore why at left fault = (next : ℕ) × (rest : List ℕ) × (left ≡ next ∷ rest) × (fault ≡ fault_at why at)
 
 ended_decides
-    : {A : Type 0} (why : ℕ) (x : A) (at : ℕ) (left : List ℕ)
-    → (let there : Input = record { at = at; left = left } in
-    Decides A (ended why x at left) (λ y after. (y ≡ x) × (after ≡ there) × (left ≡ [])) (LeavesMore why there))
-ended_decides why x at [] =
-    let there : Input = record { at = at; left = [] } in
+    : {A : Type 0} (why : Refusal) (x : A) (there : Input) (left : List ℕ)
+    → Decides A (ended why x there left) (λ y after. (y ≡ x) × (after ≡ there) × (left ≡ [])) (LeavesMore why there.at left)
+ended_decides why x there [] =
     record {
       found = λ y after e. let parts = read_parts x y there after e in (sym parts.0, sym parts.1, refl);
       only = λ y after reads. read_same x y there after (sym reads.0) (sym reads.1);
       refused = λ fault e. let bad : ⊥ = cc in absurd bad;
       only_refused = λ fault more. let left = more.2 in let bad : ⊥ = cc in absurd bad;
     }
-ended_decides why x at (next ∷ rest) =
+ended_decides why x there (next ∷ rest) =
     record {
       found = λ y after e. let bad : ⊥ = cc in absurd bad;
       only = λ y after reads. let none = reads.2 in let bad : ⊥ = cc in absurd bad;
       refused = λ fault e. (next, rest, refl, cc);
-      only_refused = λ fault more. fault_same (fault_at why at) fault (sym more.3);
+      only_refused = λ fault more. fault_same (fault_at why there.at) fault (sym more.3);
     }
 
-pub exactly_decided : {A : Type 0} (why : ℕ) {s : Syntax A} → IsDecidedBy s → IsDecidedBy (exactly why s)
+pub exactly_decided : {A : Type 0} (why : Refusal) {s : Syntax A} → IsDecidedBy s → IsDecidedBy (exactly why s)
 exactly_decided {A} why {s} one =
     record {
       decides = λ before.
-          let next : A → Input → Read A = λ x there. ended why x there.at there.left in
+          let next : A → Input → Read A = λ x there. ended why x there there.left in
           let Behind : A → Input → A → Input → Type 0 = λ x there y after. (y ≡ x) × (after ≡ there) × (there.left ≡ []) in
-          let both = and_then_decides (s.read before) next (s.Reads before) (s.Refuses before) Behind (λ x there fault. LeavesMore why there fault)
-          (one.decides before) (λ x there reads. ended_decides why x there.at there.left) in
+          let both = and_then_decides (s.read before) next (s.Reads before) (s.Refuses before) Behind (λ x there fault. LeavesMore why there.at there.left fault)
+          (one.decides before) (λ x there reads. ended_decides why x there there.left) in
           told_decides (and_then (s.read before) next)
           (λ y after. (x : A) × (there : Input) × s.Reads before x there × Behind x there y after)
           ((exactly why s).Reads before)
-          (λ fault. s.Refuses before fault ⊎ ((x : A) × (there : Input) × s.Reads before x there × LeavesMore why there fault))
+          (λ fault. s.Refuses before fault ⊎ ((x : A) × (there : Input) × s.Reads before x there × LeavesMore why there.at there.left fault))
           ((exactly why s).Refuses before)
           both
           (λ y after reads.

@@ -1,5 +1,6 @@
 -- What the sections of a module hold, item by item (WebAssembly Core 1.0, sections 5.5.4 to 5.5.14).
-use Rattle.std.specs.Prelude.{ℕ, ◌+◌, ◌==◌, nat_lt, Bool, true, if◌then◌else◌, List, [], ◌∷◌, Option, Some, None}
+use Rattle.std.specs.Prelude.{ℕ, ◌==◌, nat_lt, Bool, true, if◌then◌else◌, List, Option, Some, None}
+use Rattle.wasm_ops.specs.declared.faults.Refusal.TheVariants.{TooLarge, BadKind}
 use Rattle.wasm_ops.specs.declared.modules.Import.{Import}
 use Rattle.wasm_ops.specs.declared.modules.ImportItem.{ImportItem}
 use Rattle.wasm_ops.specs.declared.modules.ImportItem.TheVariants as item
@@ -11,44 +12,14 @@ use Rattle.wasm_ops.specs.declared.modules.ByteSegment.{ByteSegment}
 use Rattle.wasm_ops.specs.declared.types.FuncType.{FuncType}
 use Rattle.wasm_ops.specs.declared.types.Limits.{Limits}
 use Rattle.wasm_ops.specs.declared.types.ValType.{ValType}
+use Rattle.wasm_ops.specs.Limits.{most_types, most_functions, most_globals, most_kind, imported_functions, imported_globals}
 use Rattle.wasm_reader.specs.declared.imports.ImportKind.{ImportKind}
 use Rattle.wasm_reader.specs.declared.imports.ImportKind.TheVariants as kind
 use Rattle.wasm_reader.specs.Syntax.{Syntax, byte, bytes, number, seen, checked, or_fault, items, vector, vector_within, ◌⨾◌}
 use Rattle.wasm_reader.specs.Parts.{name, value_type, mutability, table, memory, constant, function_type}
 
--- the most functions, and the most types and globals; imported ones are counted
-abbrev pub most_functions : ℕ
-most_functions = 10000
-
-abbrev pub most_globals : ℕ
-most_globals = 1000
-
-abbrev pub most_types : ℕ
-most_types = 1000
-
 abbrev pub types : Syntax (List FuncType)
 types = vector_within 0 most_types function_type
-
--- how many of the imports are functions, and how many are globals
-abbrev pub counts_function : ImportItem → ℕ
-counts_function (item.Function index) = 1
-counts_function (item.Table size) = 0
-counts_function (item.Memory size) = 0
-counts_function (item.Global value mutable) = 0
-
-abbrev pub counts_global : ImportItem → ℕ
-counts_global (item.Function index) = 0
-counts_global (item.Table size) = 0
-counts_global (item.Memory size) = 0
-counts_global (item.Global value mutable) = 1
-
-abbrev pub imported_functions : List Import → ℕ
-imported_functions [] = 0
-imported_functions (i ∷ imports) = counts_function i.item + imported_functions imports
-
-abbrev pub imported_globals : List Import → ℕ
-imported_globals [] = 0
-imported_globals (i ∷ imports) = counts_global i.item + imported_globals imports
 
 -- what is imported, as its kind byte says
 abbrev pub kind_of : ℕ → Option ImportKind
@@ -67,7 +38,7 @@ abbrev pub with_room : (functions globals : ℕ) → ImportKind → Option Impor
 with_room functions globals k = if has_room functions globals k then Some k else None
 
 abbrev pub import_kind : (functions globals : ℕ) → Syntax ImportKind
-import_kind functions globals = checked (with_room functions globals) (or_fault 21) (checked kind_of (or_fault 22) byte)
+import_kind functions globals = checked (with_room functions globals) (or_fault TooLarge) (checked kind_of (or_fault BadKind) byte)
 
 abbrev pub import_item : ImportKind → Syntax ImportItem
 import_item kind.Function = seen item.Function number
@@ -108,9 +79,6 @@ abbrev pub globals : List Import → Syntax (List GlobalDef)
 globals imported = vector_within (imported_globals imported) most_globals global
 
 -- an export's kind: a function, a table, a memory or a global
-abbrev pub most_kind : ℕ
-most_kind = 3
-
 abbrev pub as_kind : ℕ → Option ℕ
 as_kind b = if nat_lt most_kind b then None else Some b
 
@@ -118,7 +86,7 @@ abbrev pub as_export : (name : List ℕ) → (kind index : ℕ) → Export
 as_export name kind index = record { name = name; kind = kind; index = index }
 
 abbrev pub export : Syntax Export
-export = name ⨾ λ own. checked as_kind (or_fault 22) byte ⨾ λ k. seen (as_export own k) number
+export = name ⨾ λ own. checked as_kind (or_fault BadKind) byte ⨾ λ k. seen (as_export own k) number
 
 abbrev pub exports : Syntax (List Export)
 exports = vector export

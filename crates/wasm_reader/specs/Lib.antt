@@ -1,5 +1,6 @@
 pub mod Bodies
 pub mod Contents
+pub mod Imports
 pub mod Modules
 pub mod Outcome
 pub mod Parts

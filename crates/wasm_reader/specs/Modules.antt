@@ -1,10 +1,11 @@
 -- What bytes spell a module, and with which number and at which place bytes are refused as one (WebAssembly Core 1.0, section 5.5.15).
 use Rattle.std.specs.Prelude.{◌≡◌, ◌⊎◌, ℕ, ◌<◌, ◌≤◌, ◌==◌, if◌then◌else◌, List, [], ◌∷◌, length, Option, Some, None}
 use Rattle.wasm_ops.specs.declared.faults.Fault.{Fault}
+use Rattle.wasm_ops.specs.declared.faults.Refusal.TheVariants.{BadMagic, BadVersion, CountsDiffer, TooLarge}
 use Rattle.wasm_ops.specs.declared.modules.Module.{Module}
+use Rattle.wasm_ops.specs.Refusals.{fault_at}
 use Rattle.wasm_ops.specs.Input.{Input}
 use Rattle.wasm_code.specs.Bodies.{beginning}
-use Rattle.wasm_code.specs.Reading.{fault_at}
 use Rattle.wasm_reader.specs.declared.sections.Progress.{Progress}
 use Rattle.wasm_reader.specs.Syntax.{Syntax, byte, given, checked, or_fault, to_end, ◌⨾◌}
 use Rattle.wasm_reader.specs.Parts.{this}
@@ -26,7 +27,7 @@ abbrev pub version : List ℕ
 version = 0x01 ∷ 0x00 ∷ 0x00 ∷ 0x00 ∷ []
 
 abbrev pub header : Syntax (Unit {0})
-header = opens_with (fault_at 15 0) magic ⨾ λ begun. opens_with (fault_at 16 4) version
+header = opens_with (fault_at BadMagic 0) magic ⨾ λ begun. opens_with (fault_at BadVersion 4) version
 
 -- a module with no parts
 abbrev pub no_parts : Module
@@ -54,7 +55,7 @@ complete done = if length done.parts.bodies == length done.parts.functions then 
 -- the header, the sections up to the end, and at the end as many bodies as functions
 abbrev pub whole_module : Syntax Module
 whole_module =
-    header ⨾ λ begun. to_end one_section at_start ⨾ λ done. checked complete (or_fault 20) (given done)
+    header ⨾ λ begun. to_end one_section at_start ⨾ λ done. checked complete (or_fault CountsDiffer) (given done)
 
 -- the most bytes of a module: 4 MiB
 abbrev pub most_bytes : ℕ
@@ -69,7 +70,7 @@ pub record SpellsModule (bytes : List ℕ) (parts : Module) : Type 0 where
 -- there are too many bytes
 pub record TooManyBytes (bytes : List ℕ) (fault : Fault) : Type 0 where
   pub large : most_bytes < length bytes
-  pub told : fault ≡ fault_at 21 0
+  pub told : fault ≡ fault_at TooLarge 0
 
 -- all items before the one at hand are spelt, and that one is refused
 pub record RefusesItem (bytes : List ℕ) (fault : Fault) : Type 0 where

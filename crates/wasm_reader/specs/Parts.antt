@@ -1,14 +1,17 @@
 -- What the parts of a module are spelt with: names, limits, constants and function types (WebAssembly Core 1.0, sections 5.2.4 and 5.3).
 use Rattle.std.specs.Prelude.{ℕ, suc, zero, Bool, true, false, ◌==◌, ◌||◌, if◌then◌else◌, List, Option, Some, None}
-use Rattle.std.specs.Str.{is_utf8}
+use Rattle.wasm_ops.specs.declared.faults.Refusal.{Refusal}
+use Rattle.wasm_ops.specs.declared.faults.Refusal.TheVariants.{FloatOperator, BadType, BadKind, BadLimits, BadConstant}
 use Rattle.wasm_ops.specs.declared.modules.Constant.{Constant}
 use Rattle.wasm_ops.specs.declared.numbers.Sign.TheVariants.{Signed}
 use Rattle.wasm_ops.specs.declared.types.FuncType.{FuncType}
 use Rattle.wasm_ops.specs.declared.types.Limits.{Limits}
 use Rattle.wasm_ops.specs.declared.types.ValType.{ValType}
 use Rattle.wasm_ops.specs.declared.types.ValType.TheVariants.{I32, I64}
+use Rattle.wasm_ops.specs.Limits.{most_elements, most_parameters, most_results}
+use Rattle.wasm_ops.specs.NameInput.{ReadsText, RefusesName, text_from}
 use Rattle.wasm_code.specs.Types.{ReadsType, RefusesType, type_from}
-use Rattle.wasm_reader.specs.Syntax.{Syntax, byte, bytes, integer, number, given, seen, checked, or_fault, limited, vector_within, ◌⨾◌}
+use Rattle.wasm_reader.specs.Syntax.{Syntax, byte, integer, number, given, seen, checked, or_fault, limited, vector_within, ◌⨾◌}
 
 -- just this byte
 abbrev pub this : (wanted found : ℕ) → Option ℕ
@@ -16,14 +19,11 @@ this wanted found = if found == wanted then Some found else None
 
 -- a byte that has to stand there; another one is no type
 abbrev pub tag : (wanted : ℕ) → Syntax ℕ
-tag wanted = checked (this wanted) (or_fault 8) byte
+tag wanted = checked (this wanted) (or_fault BadType) byte
 
 -- a name: the length of its text in bytes, and the text in UTF-8
-abbrev pub as_text : List ℕ → Option (List ℕ)
-as_text text = if is_utf8 text then Some text else None
-
 abbrev pub name : Syntax (List ℕ)
-name = number ⨾ λ count. checked as_text (or_fault 4) (bytes count)
+name = record { Reads = ReadsText; Refuses = RefusesName; read = text_from }
 
 -- a value type
 abbrev pub value_type : Syntax ValType
@@ -35,7 +35,7 @@ flag_of b = if b == 0 then Some false else (if b == 1 then Some true else None)
 
 -- whether a global may be set
 abbrev pub mutability : Syntax Bool
-mutability = checked flag_of (or_fault 22) byte
+mutability = checked flag_of (or_fault BadKind) byte
 
 -- limits: whether they have a greatest size, the least one, and the greatest
 abbrev pub greatest : Bool → Syntax (Option ℕ)
@@ -46,11 +46,7 @@ abbrev pub bounds : ℕ → Option ℕ → Limits
 bounds least most = record { least = least; most = most }
 
 abbrev pub limits : (least_size : Syntax ℕ) → Syntax Limits
-limits least_size = checked flag_of (or_fault 23) byte ⨾ λ has_most. least_size ⨾ λ least. seen (bounds least) (greatest has_most)
-
--- the greatest least size of a table
-abbrev pub most_elements : ℕ
-most_elements = 10000
+limits least_size = checked flag_of (or_fault BadLimits) byte ⨾ λ has_most. least_size ⨾ λ least. seen (bounds least) (greatest has_most)
 
 abbrev pub table : Syntax Limits
 table = tag 0x70 ⨾ λ kind. limits (limited 0 most_elements)
@@ -63,8 +59,8 @@ abbrev pub constant_of : ℕ → Option ValType
 constant_of b = if b == 0x41 then Some I32 else (if b == 0x42 then Some I64 else None)
 
 -- a constant of a float type has the refusal of a float operator
-abbrev pub no_constant : ℕ → ℕ
-no_constant b = if b == 0x43 || b == 0x44 then 5 else 24
+abbrev pub no_constant : ℕ → Refusal
+no_constant b = if b == 0x43 || b == 0x44 then FloatOperator else BadConstant
 
 abbrev pub constant_bits : ValType → Syntax ℕ
 constant_bits I32 = integer Signed 32
@@ -76,14 +72,7 @@ as_constant value bits = record { value = value; bits = bits }
 abbrev pub constant : Syntax Constant
 constant =
     checked constant_of (λ at b. or_fault (no_constant b) at b) byte ⨾ λ value. constant_bits value ⨾ λ bits.
-    checked (this 0x0B) (or_fault 24) byte ⨾ λ end. given (as_constant value bits)
-
--- the most parameters of a function type, and the most results
-abbrev pub most_parameters : ℕ
-most_parameters = 1000
-
-abbrev pub most_results : ℕ
-most_results = 1
+    checked (this 0x0B) (or_fault BadConstant) byte ⨾ λ end. given (as_constant value bits)
 
 -- the result, where there is one
 abbrev pub result_of : (count : ℕ) → Syntax (Option ValType)

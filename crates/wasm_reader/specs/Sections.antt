@@ -1,17 +1,16 @@
 -- The sections of a module, in their order (WebAssembly Core 1.0, sections 5.5.2 and 5.5.3).
-use Rattle.std.specs.Prelude.{◌≡◌, ℕ, ◌==◌, nat_lt, Bool, true, if◌then◌else◌, List, ◌++◌, length, Option, Some, None}
-use Rattle.wasm_ops.specs.declared.faults.Fault.{Fault}
+use Rattle.std.specs.Prelude.{ℕ, ◌==◌, nat_lt, Bool, true, if◌then◌else◌, length, Option, Some, None}
+use Rattle.wasm_ops.specs.declared.faults.Refusal.TheVariants.{SectionOrder, SectionSize, UnknownSection}
 use Rattle.wasm_ops.specs.declared.modules.Module.{Module}
-use Rattle.wasm_ops.specs.Input.{Input}
 use Rattle.wasm_reader.specs.declared.sections.Part.{Part}
 use Rattle.wasm_reader.specs.declared.sections.Part.TheVariants as part
 use Rattle.wasm_reader.specs.declared.sections.Section.{Section}
 use Rattle.wasm_reader.specs.declared.sections.Section.TheVariants as section
 use Rattle.wasm_reader.specs.declared.sections.Progress.{Progress}
-use Rattle.wasm_reader.specs.Syntax.{Syntax, byte, bytes, number, given, seen, checked, or_fault, inside, refused_as, exactly, ◌⨾◌}
+use Rattle.wasm_reader.specs.Syntax.{Syntax, byte, number, given, seen, checked, or_fault, inside, exactly, ◌⨾◌}
 use Rattle.wasm_reader.specs.Parts.{name}
 use Rattle.wasm_reader.specs.Contents.{types, imports, functions, tables, memories, globals, exports, elements, segments}
-use Rattle.wasm_reader.specs.Bodies.{in_section, section_fault, bodies}
+use Rattle.wasm_reader.specs.Bodies.{bodies}
 
 -- the section with an id
 abbrev pub section_of : (id : ℕ) → Option Section
@@ -54,7 +53,7 @@ rising last section.Custom = Some section.Custom
 rising last (section.Part p) = if is_behind last p then Some (section.Part p) else None
 
 abbrev pub section_id : (last : Option Part) → Syntax Section
-section_id last = checked (rising last) (or_fault 17) (checked section_of (or_fault 19) byte)
+section_id last = checked (rising last) (or_fault SectionOrder) (checked section_of (or_fault UnknownSection) byte)
 
 -- the module with one more part, from what stands in the section
 abbrev pub part_of : Part → Module → Syntax Module
@@ -70,28 +69,14 @@ part_of part.Elements m = seen (λ xs. record m { elements = xs }) elements
 part_of part.Bodies m = seen (λ xs. record m { bodies = xs }) (bodies (length m.functions))
 part_of part.Segments m = seen (λ xs. record m { segments = xs }) segments
 
--- how a fault in the section is told: the section of bodies tells those of its own and those of its bodies apart by itself
-abbrev pub told_in : Part → Fault → Fault
-told_in part.Bodies fault = fault
-told_in p fault = section_fault fault
-
-abbrev pub content : Part → Module → Syntax Module
-content p m = refused_as (told_in p) (part_of p m)
-
 abbrev pub after_part : Part → Module → Progress
 after_part p m = record { last = Some p; parts = m }
 
 -- what stands in a section: a custom one begins with a name, and its other bytes are not read; any other one is read to its end
 abbrev pub section_content : Section → Progress → Syntax Progress
-section_content section.Custom so_far = in_section (name ⨾ λ own. given so_far)
-section_content (section.Part p) so_far = seen (after_part p) (exactly 18 (content p so_far.parts))
+section_content section.Custom so_far = name ⨾ λ own. given so_far
+section_content (section.Part p) so_far = seen (after_part p) (exactly SectionSize (part_of p so_far.parts))
 
--- a section: its id, the size of what it holds, and that
+-- a section: its id, the size of what it holds, and that; an item that passes the section's end is refused for its size
 abbrev pub one_section : (so_far : Progress) → Syntax Progress
-one_section so_far = section_id so_far.last ⨾ λ s. number ⨾ λ size. inside (bytes size) (section_content s so_far)
-
--- what lies ahead are the bytes of a file from a place on, up to its end
-pub record IsTail (bytes : List ℕ) (here : Input) : Type 0 where
-  pub passed : List ℕ
-  pub cut : bytes ≡ passed ++ here.left
-  pub place : here.at ≡ length passed
+one_section so_far = section_id so_far.last ⨾ λ s. number ⨾ λ size. inside size SectionSize (section_content s so_far)

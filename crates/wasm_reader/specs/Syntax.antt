@@ -1,11 +1,14 @@
 -- How things of a kind are spelt, and what refuses bytes as one of them: what the binary format is put together from (WebAssembly Core 1.0, sections 5.1 and 5.2).
 use Rattle.std.specs.Prelude.{◌≡◌, ◌⊎◌, ℕ, suc, zero, ◌+◌, ◌<◌, nat_lt, if◌then◌else◌, List, [], ◌∷◌, ◌++◌, length, Option, Some, None, Ok, Err}
 use Rattle.wasm_ops.specs.declared.faults.Fault.{Fault}
+use Rattle.wasm_ops.specs.declared.faults.Refusal.{Refusal}
+use Rattle.wasm_ops.specs.declared.faults.Refusal.TheVariants.{TooLarge}
 use Rattle.wasm_ops.specs.declared.numbers.Sign.{Sign}
 use Rattle.wasm_ops.specs.declared.numbers.Sign.TheVariants.{Unsigned}
-use Rattle.wasm_ops.specs.Input.{Input, cut_short, byte_from, bytes_from}
+use Rattle.wasm_ops.specs.Refusals.{fault_at}
+use Rattle.wasm_ops.specs.Input.{Input, cut_short, byte_from, bytes_from, window_at}
 use Rattle.wasm_ops.specs.NumberInput.{ReadsNumber, RefusesNumber, number_from}
-use Rattle.wasm_code.specs.Reading.{Read, and_then, as_part, fault_at, ReadsByte, LacksByte}
+use Rattle.wasm_code.specs.Reading.{Read, and_then, as_part, ReadsByte, LacksByte}
 
 -- which things are spelt from one place to another, and with which fault the bytes at a place are refused where none is spelt there; `read` says the same as a function
 pub record Syntax (A : Type 0) : Type 1 where
@@ -30,6 +33,7 @@ pub record ReadsBytes (count : ℕ) (before : Input) (bytes : List ℕ) (after :
   pub cut : before.left ≡ bytes ++ after.left
   pub all : length bytes ≡ count
   pub behind : after.at ≡ before.at + count
+  pub same_cut : after.cut ≡ before.cut
 
 -- fewer are left
 pub record LacksBytes (count : ℕ) (before : Input) (fault : Fault) : Type 0 where
@@ -78,8 +82,8 @@ checked test fault syntax_of = record {
   read = λ before. and_then (syntax_of.read before) (λ x there. known (test x) (fault before.at x) there);
 }
 
--- the same, with a fault's number alone
-abbrev pub or_fault : {A : Type 0} → (why : ℕ) → (at : ℕ) → A → Fault
+-- the same, whatever the thing is
+abbrev pub or_fault : {A : Type 0} → (why : Refusal) → (at : ℕ) → A → Fault
 or_fault why at x = fault_at why at
 
 -- things, one behind another: each may depend on those before it
@@ -104,63 +108,57 @@ items count item = record {
   read = items_from count item [];
 }
 
--- a count of things, with those before them no more than `most` (else 21), and so many things
+-- a count of things, which with those before them are no more than `most`
 abbrev pub within_limit : (before most count : ℕ) → Option ℕ
 within_limit before most count = if nat_lt most (before + count) then None else Some count
 
 abbrev pub limited : (before most : ℕ) → Syntax ℕ
-limited before most = checked (within_limit before most) (or_fault 21) number
+limited before most = checked (within_limit before most) (or_fault TooLarge) number
 
--- a vector (section 5.1.3): a count, and so many things of one kind
+-- a vector (section 5.1.3): a count, and so many things
+abbrev pub vector_of : {A : Type 0} → (counted : Syntax ℕ) → (item : List A → Syntax A) → Syntax (List A)
+vector_of counted item = counted ⨾ λ count. items count item
+
+-- a vector of things of one kind
 abbrev pub vector : {A : Type 0} → Syntax A → Syntax (List A)
-vector item = number ⨾ λ count. items count (λ so_far. item)
+vector item = vector_of number (λ so_far. item)
 
 -- a vector of at most so many things, with those before them
 abbrev pub vector_within : {A : Type 0} → (before most : ℕ) → Syntax A → Syntax (List A)
-vector_within before most item = limited before most ⨾ λ count. items count (λ so_far. item)
+vector_within before most item = vector_of (limited before most) (λ so_far. item)
 
--- the same things, refused with other faults
-abbrev pub told : {A : Type 0} → (Fault → Fault) → Read A → Read A
-told other (Ok read) = Ok read
-told other (Err fault) = Err (other fault)
+-- what is known behind things, one after another
+abbrev pub kept : {S A : Type 0} → (after : S → A → S) → S → List A → S
+kept after s [] = s
+kept after s (x ∷ xs) = kept after (after s x) xs
 
-abbrev pub refused_as : {A : Type 0} → (other : Fault → Fault) → Syntax A → Syntax A
-refused_as other syntax_of = record {
-  Reads = syntax_of.Reads;
-  Refuses = λ before fault. (first : Fault) × syntax_of.Refuses before first × (fault ≡ other first);
-  read = λ before. told other (syntax_of.read before);
-}
-
--- a window: these bytes, and in them, with the places that they have, a thing that may leave some over
+-- a thing in a window of so many bytes, which have the places that they have; it may leave some of them over. What passes the window's end is refused as `cut`
 abbrev pub left_at : {A : Type 0} → (after : Input) → Read A → Read A
 left_at after (Ok read) = Ok (read.0, after)
 left_at after (Err fault) = Err fault
 
-abbrev pub window_at : Input → List ℕ → Input
-window_at before window = record { at = before.at; left = window }
-
-abbrev pub inside : {A : Type 0} → Syntax (List ℕ) → Syntax A → Syntax A
-inside cut syntax_of = record {
+abbrev pub inside : {A : Type 0} → (count : ℕ) → (cut : Refusal) → Syntax A → Syntax A
+inside count cut syntax_of = record {
   Reads = λ before x after.
-      (window : List ℕ) × (end : Input) × cut.Reads before window after × syntax_of.Reads (window_at before window) x end;
+      (held : List ℕ) × (end : Input) × ReadsBytes count before held after × syntax_of.Reads (window_at cut before held) x end;
   Refuses = λ before fault.
-      cut.Refuses before fault
-      ⊎ ((window : List ℕ) × (after : Input) × cut.Reads before window after × syntax_of.Refuses (window_at before window) fault);
-  read = λ before. and_then (cut.read before) (λ window after. left_at after (syntax_of.read (window_at before window)));
+      LacksBytes count before fault
+      ⊎ ((held : List ℕ) × (after : Input) × ReadsBytes count before held after × syntax_of.Refuses (window_at cut before held) fault);
+  read = λ before. and_then (bytes_from count before) (λ held after. left_at after (syntax_of.read (window_at cut before held)));
 }
 
--- a thing up to the end of the window; else this number at the first byte that is left over
-abbrev pub ended : {A : Type 0} → (why : ℕ) → A → (at : ℕ) → (left : List ℕ) → Read A
-ended why x at [] = Ok (x, record { at = at; left = [] })
-ended why x at (next ∷ rest) = Err (fault_at why at)
+-- a thing up to the end of the window; else this refusal at the first byte that is left over
+abbrev pub ended : {A : Type 0} → (why : Refusal) → A → (after : Input) → (left : List ℕ) → Read A
+ended why x after [] = Ok (x, after)
+ended why x after (next ∷ rest) = Err (fault_at why after.at)
 
-abbrev pub exactly : {A : Type 0} → (why : ℕ) → Syntax A → Syntax A
+abbrev pub exactly : {A : Type 0} → (why : Refusal) → Syntax A → Syntax A
 exactly why syntax_of = record {
   Reads = λ before x after. syntax_of.Reads before x after × (after.left ≡ []);
   Refuses = λ before fault.
       syntax_of.Refuses before fault
       ⊎ ((x : _) × (there : Input) × syntax_of.Reads before x there × (next : ℕ) × (rest : List ℕ) × (there.left ≡ next ∷ rest) × (fault ≡ fault_at why there.at));
-  read = λ before. and_then (syntax_of.read before) (λ x there. ended why x there.at there.left);
+  read = λ before. and_then (syntax_of.read before) (λ x there. ended why x there there.left);
 }
 
 -- steps from one state to another, so many of them

@@ -1,16 +1,19 @@
 //! Imports (WebAssembly Core 1.0, section 5.5.5).
-ghost use Rattle.std.specs.Prelude.{◌≡◌, ◌+◌, ◌<◌, ◌^◌, []};
+ghost use Rattle.std.specs.Prelude.{◌≡◌, ◌+◌, ◌<◌, ◌^◌, true, IfOk};
+ghost use Rattle.wasm_ops.specs.Limits.{imported_functions, imported_globals};
 ghost use Rattle.wasm_code.specs.Faults.{Tells};
-ghost use Rattle.wasm_reader.specs.Contents.{counts_function, counts_global, has_room, import_behind, import_item as import_item_syntax, import_kind as import_kind_syntax, imported_functions, imported_globals, imports as imports_syntax, kind_of, next_import};
+ghost use Rattle.wasm_reader.specs.Contents.{has_room, import_behind, import_item as import_item_syntax, import_kind as import_kind_syntax, imports as imports_syntax, kind_of};
+ghost use Rattle.wasm_reader.specs.Imports.{functions_of, globals_of, kind_of_import, none_imported, with_import, with_kind};
 ghost use Rattle.wasm_reader.specs.Outcome.{Gives};
-ghost use Rattle.wasm_reader.specs.Syntax.{items_from};
+ghost use Rattle.wasm_reader.specs.Syntax.{Syntax};
 
 use crate::faults::ReadFault;
 use crate::items::owned_name;
 use crate::parts::{memory, mutability, table};
+use crate::vectors::{Kind, vector};
 use std::alloc::Global;
 use wasm_code::value_type;
-use wasm_ops::{Cursor, Fault, Import, ImportItem};
+use wasm_ops::{Cursor, Fault, Import, ImportItem, Refusal};
 
 /// The most functions of a module, imported ones among them.
 pub(crate) const MOST_FUNCTIONS: u32 = 10_000;
@@ -46,19 +49,33 @@ impl ImportKind {
             _ => None,
         }
     }
+
+    fn of_import(item: &ImportItem) -> ImportKind
+        ensures { result ≡ kind_of_import item.now }
+    {
+        match item {
+            ImportItem::Function(_) => ImportKind::Function,
+            ImportItem::Table(_) => ImportKind::Table,
+            ImportItem::Memory(_) => ImportKind::Memory,
+            ImportItem::Global { .. } => ImportKind::Global,
+        }
+    }
 }
 
-/// How many functions and globals are imported.
-#[derive(Clone, Copy, Debug)]
-pub(crate) struct Imported {
-    pub(crate) functions: u64,
-    pub(crate) globals: u64,
+/// How many functions and globals are imported, for the imports that came before. Imports are a kind of things of which a vector is made.
+#[derive(Clone, Copy)]
+pub struct Imported {
+    /// How many of them are functions.
+    pub functions: u64,
+
+    /// How many of them are globals.
+    pub globals: u64,
 }
 
 impl Imported {
-    fn none() -> Imported
-        ensures functions { result.functions ≡ 0 }
-        ensures globals { result.globals ≡ 0 }
+    /// Those of no imports.
+    pub(crate) fn none() -> Imported
+        ensures { result ≡ none_imported }
     {
         Imported {
             functions: 0,
@@ -66,24 +83,35 @@ impl Imported {
         }
     }
 
-    // Those with one more import.
-    fn with(self, item: &ImportItem) -> Imported
-        requires functions { self.functions + 1 < 2 ^ 64 }
-        requires globals { self.globals + 1 < 2 ^ 64 }
-        ensures functions { result.functions ≡ self.functions + counts_function item.now }
-        ensures globals { result.globals ≡ self.globals + counts_global item.now }
+    // Those with one more import of this kind.
+    fn with(self, kind: ImportKind) -> Imported
+        requires functions { self.functions + functions_of kind < 2 ^ 64 }
+        requires globals { self.globals + globals_of kind < 2 ^ 64 }
+        ensures { result ≡ with_kind self kind }
     {
-        match item {
-            ImportItem::Function(_) => Imported {
+        match kind {
+            ImportKind::Function => Imported {
                 functions: self.functions + 1,
                 globals: self.globals,
             },
-            ImportItem::Table(_) => self,
-            ImportItem::Memory(_) => self,
-            ImportItem::Global { .. } => Imported {
+            ImportKind::Table => self,
+            ImportKind::Memory => self,
+            ImportKind::Global => Imported {
                 functions: self.functions,
                 globals: self.globals + 1,
             },
+        }
+    }
+
+    // Whether the module may have one more import of this kind.
+    fn has_room(self, kind: ImportKind) -> bool
+        ensures { result ≡ has_room self.functions self.globals kind }
+    {
+        match kind {
+            ImportKind::Function => self.functions < u64::from(MOST_FUNCTIONS),
+            ImportKind::Table => true,
+            ImportKind::Memory => true,
+            ImportKind::Global => self.globals < u64::from(MOST_GLOBALS),
         }
     }
 
@@ -94,82 +122,57 @@ impl Imported {
     {
         let mut imported = Imported::none();
         for import in imports {
-            imported = imported.with(&import.item);
+            imported = imported.with(ImportKind::of_import(&import.item));
         }
         imported
     }
 }
 
-/// The imports. Refused: 21 at the kind of an imported function or global that is one too many.
+impl Kind for Imported {
+    type Item = Import;
+
+    ghost syntax = { λ imported. import_behind imported.functions imported.globals };
+
+    ghost after = { with_import };
+
+    fn next(&mut self, alloc: Global, cursor: &mut Cursor<'_>) -> Result<Import, ReadFault> {
+        let module = owned_name(alloc, cursor)?;
+        let name = owned_name(alloc, cursor)?;
+        let kind = import_kind(*self, cursor)?;
+        let item = import_item(kind, cursor)?;
+        *self = self.with(kind);
+        Ok(Import { module, name, item })
+    }
+}
+
+/// The imports.
 pub(crate) fn imports(alloc: Global, cursor: &mut Cursor<'_>) -> Result<Vec<Import>, ReadFault>
     ensures { Gives (λ imports. (imports.items, cursor.new)) result (imports_syntax.read cursor.old) }
 {
-    let count = cursor.u32_leb()?;
-    counted_imports(alloc, count, cursor)
+    vector(alloc, Imported::none(), cursor)
 }
 
-fn counted_imports(
-    alloc: Global,
-    count: u32,
-    cursor: &mut Cursor<'_>,
-) -> Result<Vec<Import>, ReadFault>
-    ensures { Gives (λ imports. (imports.items, cursor.new)) result (items_from count next_import [] cursor.old) }
-{
-    let mut imports = Vec::new(alloc);
-    let mut imported = Imported::none();
-    for _ in 0..count {
-        let import = import(alloc, imported, cursor)?;
-        imported = imported.with(&import.item);
-        imports.push(import)?;
-    }
-    Ok(imports)
-}
-
-// The next import, behind those that are counted.
-fn import(alloc: Global, imported: Imported, cursor: &mut Cursor<'_>) -> Result<Import, ReadFault>
-    ensures { Gives (λ import. (import, cursor.new)) result ((import_behind imported.functions imported.globals).read cursor.old) }
-{
-    let module = owned_name(alloc, cursor)?;
-    let name = owned_name(alloc, cursor)?;
-    let kind = import_kind(imported, cursor)?;
-    let item = import_item(kind, cursor)?;
-    Ok(Import { module, name, item })
-}
-
-// The kind of an import. Refused: 22 at an unknown one, and 21 where no room is left for one of it.
+// The kind of an import, which can be counted. Refused: `BadKind` at an unknown one, and `TooLarge` where no room is left for one of it.
+#[tactic(auto, using(crate::proofs::ImportCounts::functions_fit, crate::proofs::ImportCounts::globals_fit))]
 fn import_kind(imported: Imported, cursor: &mut Cursor<'_>) -> Result<ImportKind, Fault>
-    ensures { Tells (λ kind. (kind, cursor.new)) result ((import_kind_syntax imported.functions imported.globals).read cursor.old) }
+    ensures read { Tells (λ kind. (kind, cursor.new)) result ((import_kind_syntax imported.functions imported.globals).read cursor.old) }
+    ensures functions { IfOk result (λ kind. imported.functions + functions_of kind < 2 ^ 64) }
+    ensures globals { IfOk result (λ kind. imported.globals + globals_of kind < 2 ^ 64) }
 {
     let at = cursor.at();
     let Some(kind) = ImportKind::of(cursor.byte()?) else {
-        return Err(Fault {
-            number: 22,
-            place: at,
-        });
+        return Err(Refusal::BadKind.at(at));
     };
-    if !has_room(imported, kind) {
-        return Err(Fault {
-            number: 21,
-            place: at,
-        });
+    if !imported.has_room(kind) {
+        return Err(Refusal::TooLarge.at(at));
     }
     Ok(kind)
 }
 
-fn has_room(imported: Imported, kind: ImportKind) -> bool
-    ensures { result ≡ has_room imported.functions imported.globals kind }
-{
-    match kind {
-        ImportKind::Function => imported.functions < u64::from(MOST_FUNCTIONS),
-        ImportKind::Table => true,
-        ImportKind::Memory => true,
-        ImportKind::Global => imported.globals < u64::from(MOST_GLOBALS),
-    }
-}
-
 // What is imported, behind its kind.
 fn import_item(kind: ImportKind, cursor: &mut Cursor<'_>) -> Result<ImportItem, Fault>
-    ensures { Tells (λ item. (item, cursor.new)) result ((import_item_syntax kind).read cursor.old) }
+    ensures read { Tells (λ item. (item, cursor.new)) result ((import_item_syntax kind).read cursor.old) }
+    ensures kind { IfOk result (λ item. kind_of_import item ≡ kind) }
 {
     match kind {
         ImportKind::Function => Ok(ImportItem::Function(cursor.u32_leb()?)),

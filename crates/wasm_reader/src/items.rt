@@ -1,17 +1,19 @@
-//! What the vectors of a module are made of, but for imports, tables, memories and bodies (WebAssembly Core 1.0, sections 5.3, 5.5.4 to 5.5.6, 5.5.9, 5.5.10, 5.5.12 and 5.5.14).
+//! What the vectors of a module are made of, but for imports and bodies (WebAssembly Core 1.0, sections 5.3, 5.5.4, 5.5.6 to 5.5.10, 5.5.12 and 5.5.14).
+ghost use Rattle.wasm_ops.specs.declared.faults.Refusal.TheVariants.{BadKind};
 ghost use Rattle.wasm_code.specs.Faults.{Tells};
 ghost use Rattle.wasm_reader.specs.Contents.{as_kind, element as element_syntax, export as export_syntax, global as global_syntax, segment as segment_syntax};
 ghost use Rattle.wasm_reader.specs.Outcome.{Gives};
-ghost use Rattle.wasm_reader.specs.Parts.{function_type as function_type_syntax, name as name_syntax, result_of, value_type as value_type_syntax};
+ghost use Rattle.wasm_reader.specs.Parts.{function_type as function_type_syntax, memory as memory_syntax, name as name_syntax, result_of, table as table_syntax, value_type as value_type_syntax};
 ghost use Rattle.wasm_reader.specs.Syntax.{byte, checked, number, or_fault};
 
 use crate::faults::ReadFault;
-use crate::parts::{constant, count, mutability, name, tag};
-use crate::vectors::{Item, vector, vector_within};
+use crate::parts::{constant, count, memory, mutability, table, tag};
+use crate::vectors::{Kind, vector, vector_within};
 use std::alloc::Global;
 use wasm_code::value_type;
 use wasm_ops::{
-    ByteSegment, Cursor, ElementSegment, Export, Fault, FuncType, GlobalDef, Items, Name, ValType,
+    ByteSegment, Cursor, ElementSegment, Export, Fault, FuncType, GlobalDef, Items, Limits, Name,
+    Refusal, ValType,
 };
 
 // The most parameters of a function type.
@@ -23,29 +25,52 @@ const MOST_RESULTS: u32 = 1;
 // The greatest kind of an export: a global.
 const MOST_KIND: u8 = 3;
 
-/// An index.
-impl Item for u32 {
-    ghost syntax = { number };
+/// Indices, of whatever they count.
+#[derive(Clone, Copy)]
+pub(crate) struct Indices;
 
-    fn read(_alloc: Global, cursor: &mut Cursor<'_>) -> Result<u32, ReadFault> {
+impl Kind for Indices {
+    type Item = u32;
+
+    ghost syntax = { λ _. number };
+
+    ghost after = { λ kind _. kind };
+
+    fn next(&mut self, _alloc: Global, cursor: &mut Cursor<'_>) -> Result<u32, ReadFault> {
         Ok(cursor.u32_leb()?)
     }
 }
 
-impl Item for ValType {
-    ghost syntax = { value_type_syntax };
+/// Value types.
+#[derive(Clone, Copy)]
+pub(crate) struct ValueTypes;
 
-    fn read(_alloc: Global, cursor: &mut Cursor<'_>) -> Result<ValType, ReadFault> {
+impl Kind for ValueTypes {
+    type Item = ValType;
+
+    ghost syntax = { λ _. value_type_syntax };
+
+    ghost after = { λ kind _. kind };
+
+    fn next(&mut self, _alloc: Global, cursor: &mut Cursor<'_>) -> Result<ValType, ReadFault> {
         Ok(value_type(cursor)?)
     }
 }
 
-impl Item for FuncType {
-    ghost syntax = { function_type_syntax };
+/// Function types.
+#[derive(Clone, Copy)]
+pub(crate) struct FunctionTypes;
 
-    fn read(alloc: Global, cursor: &mut Cursor<'_>) -> Result<FuncType, ReadFault> {
+impl Kind for FunctionTypes {
+    type Item = FuncType;
+
+    ghost syntax = { λ _. function_type_syntax };
+
+    ghost after = { λ kind _. kind };
+
+    fn next(&mut self, alloc: Global, cursor: &mut Cursor<'_>) -> Result<FuncType, ReadFault> {
         tag(0x60, cursor)?;
-        let params = vector_within(alloc, 0, MOST_PARAMETERS, cursor)?;
+        let params = vector_within(alloc, 0, MOST_PARAMETERS, ValueTypes, cursor)?;
         let results = count(0, MOST_RESULTS, cursor)?;
         let result = result_type(results, cursor)?;
         Ok(FuncType {
@@ -65,10 +90,50 @@ fn result_type(count: u32, cursor: &mut Cursor<'_>) -> Result<Option<ValType>, F
     Ok(Some(value_type(cursor)?))
 }
 
-impl Item for GlobalDef {
-    ghost syntax = { global_syntax };
+/// Tables, by their limits.
+#[derive(Clone, Copy)]
+pub(crate) struct Tables;
 
-    fn read(_alloc: Global, cursor: &mut Cursor<'_>) -> Result<GlobalDef, ReadFault> {
+impl Kind for Tables {
+    type Item = Limits;
+
+    ghost syntax = { λ _. table_syntax };
+
+    ghost after = { λ kind _. kind };
+
+    fn next(&mut self, _alloc: Global, cursor: &mut Cursor<'_>) -> Result<Limits, ReadFault> {
+        Ok(table(cursor)?)
+    }
+}
+
+/// Memories, by their limits.
+#[derive(Clone, Copy)]
+pub(crate) struct Memories;
+
+impl Kind for Memories {
+    type Item = Limits;
+
+    ghost syntax = { λ _. memory_syntax };
+
+    ghost after = { λ kind _. kind };
+
+    fn next(&mut self, _alloc: Global, cursor: &mut Cursor<'_>) -> Result<Limits, ReadFault> {
+        Ok(memory(cursor)?)
+    }
+}
+
+/// Globals.
+#[derive(Clone, Copy)]
+pub(crate) struct Globals;
+
+impl Kind for Globals {
+    type Item = GlobalDef;
+
+    ghost syntax = { λ _. global_syntax };
+
+    ghost after = { λ kind _. kind };
+
+    fn next(&mut self, _alloc: Global, cursor: &mut Cursor<'_>) -> Result<GlobalDef, ReadFault> {
         let value = value_type(cursor)?;
         let mutable = mutability(cursor)?;
         let first = constant(cursor)?;
@@ -80,10 +145,18 @@ impl Item for GlobalDef {
     }
 }
 
-impl Item for Export {
-    ghost syntax = { export_syntax };
+/// Exports.
+#[derive(Clone, Copy)]
+pub(crate) struct Exports;
 
-    fn read(alloc: Global, cursor: &mut Cursor<'_>) -> Result<Export, ReadFault> {
+impl Kind for Exports {
+    type Item = Export;
+
+    ghost syntax = { λ _. export_syntax };
+
+    ghost after = { λ kind _. kind };
+
+    fn next(&mut self, alloc: Global, cursor: &mut Cursor<'_>) -> Result<Export, ReadFault> {
         let name = owned_name(alloc, cursor)?;
         let kind = export_kind(cursor)?;
         let index = cursor.u32_leb()?;
@@ -91,17 +164,14 @@ impl Item for Export {
     }
 }
 
-// The kind of an export. Refused: 22 at a byte above 3.
+// The kind of an export. Refused: `BadKind` at a byte above 3.
 fn export_kind(cursor: &mut Cursor<'_>) -> Result<u8, Fault>
-    ensures { Tells (λ kind. (kind, cursor.new)) result ((checked as_kind (or_fault 22) byte).read cursor.old) }
+    ensures { Tells (λ kind. (kind, cursor.new)) result ((checked as_kind (or_fault BadKind) byte).read cursor.old) }
 {
     let at = cursor.at();
     let kind = cursor.byte()?;
     if MOST_KIND < kind {
-        return Err(Fault {
-            number: 22,
-            place: at,
-        });
+        return Err(Refusal::BadKind.at(at));
     }
     Ok(kind)
 }
@@ -110,17 +180,29 @@ fn export_kind(cursor: &mut Cursor<'_>) -> Result<u8, Fault>
 pub(crate) fn owned_name(alloc: Global, cursor: &mut Cursor<'_>) -> Result<Name, ReadFault>
     ensures { Gives (λ name. (name, cursor.new)) result (name_syntax.read cursor.old) }
 {
-    let text = name(cursor)?;
+    let text = cursor.text()?;
     Ok(Name::new(String::from_str(alloc, text)?))
 }
 
-impl Item for ElementSegment {
-    ghost syntax = { element_syntax };
+/// Element segments.
+#[derive(Clone, Copy)]
+pub(crate) struct ElementSegments;
 
-    fn read(alloc: Global, cursor: &mut Cursor<'_>) -> Result<ElementSegment, ReadFault> {
+impl Kind for ElementSegments {
+    type Item = ElementSegment;
+
+    ghost syntax = { λ _. element_syntax };
+
+    ghost after = { λ kind _. kind };
+
+    fn next(
+        &mut self,
+        alloc: Global,
+        cursor: &mut Cursor<'_>,
+    ) -> Result<ElementSegment, ReadFault> {
         let table = cursor.u32_leb()?;
         let offset = constant(cursor)?;
-        let functions = vector(alloc, cursor)?;
+        let functions = vector(alloc, Indices, cursor)?;
         Ok(ElementSegment {
             table,
             offset,
@@ -129,10 +211,18 @@ impl Item for ElementSegment {
     }
 }
 
-impl Item for ByteSegment {
-    ghost syntax = { segment_syntax };
+/// Data segments.
+#[derive(Clone, Copy)]
+pub(crate) struct DataSegments;
 
-    fn read(alloc: Global, cursor: &mut Cursor<'_>) -> Result<ByteSegment, ReadFault> {
+impl Kind for DataSegments {
+    type Item = ByteSegment;
+
+    ghost syntax = { λ _. segment_syntax };
+
+    ghost after = { λ kind _. kind };
+
+    fn next(&mut self, alloc: Global, cursor: &mut Cursor<'_>) -> Result<ByteSegment, ReadFault> {
         let memory = cursor.u32_leb()?;
         let offset = constant(cursor)?;
         let count = cursor.u32_leb()?;

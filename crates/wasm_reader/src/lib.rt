@@ -13,11 +13,10 @@ pub mod laws;
 mod modules;
 mod parts;
 mod sections;
-mod sizes;
 mod vectors;
 
 pub use faults::ReadFault;
-pub use imports::ImportKind;
+pub use imports::{ImportKind, Imported};
 pub use modules::{MOST_BYTES, read_module};
 pub use sections::{Part, Progress, Section};
 

@@ -1,19 +1,20 @@
 //! The reader of modules (WebAssembly Core 1.0, section 5.5.15).
 ghost use Rattle.std.specs.Prelude.{◌≤◌, ◌<◌, ◌^◌, length, IfOk, IfErr};
 ghost use Rattle.wasm_ops.specs.declared.faults.Fault.{Fault as FaultValue};
+ghost use Rattle.wasm_ops.specs.declared.faults.Refusal.TheVariants.{CountsDiffer};
 ghost use Rattle.wasm_ops.specs.declared.modules.Module.{Module as ModuleValue};
 ghost use Rattle.wasm_ops.specs.Input.{Input};
 ghost use Rattle.wasm_code.specs.Bodies.{beginning};
 ghost use Rattle.wasm_code.specs.Faults.{Tells};
 ghost use Rattle.wasm_reader.specs.Modules.{SpellsModule, RefusesModule, complete, header as header_syntax, opens_with as opens_with_syntax, whole_module};
 ghost use Rattle.wasm_reader.specs.Outcome.{Gives, GivesValue, GivesFault, IsAmong};
-ghost use Rattle.wasm_reader.specs.Sections.{IsTail, one_section};
+ghost use Rattle.wasm_reader.specs.Sections.{one_section};
 ghost use Rattle.wasm_reader.specs.Syntax.{checked, given, or_fault, to_end};
 
 use crate::faults::ReadFault;
 use crate::sections::{Progress, read_section};
 use std::alloc::Global;
-use wasm_ops::{Cursor, Fault, Module};
+use wasm_ops::{Cursor, Fault, Module, Refusal};
 
 /// The most bytes of a module's file: 4 MiB.
 pub const MOST_BYTES: u64 = 4 << 20;
@@ -38,55 +39,36 @@ pub fn read_module(alloc: Global, bytes: &[u8]) -> Result<Module, ReadFault>
     ensures only_refused { (fault : FaultValue) → RefusesModule bytes.now fault → GivesFault result fault }
 {
     if MOST_BYTES < bytes.len() as u64 {
-        return Err(ReadFault::Bytes(Fault {
-            number: 21,
-            place: 0,
-        }));
+        return Err(ReadFault::Bytes(Refusal::TooLarge.at(0)));
     }
     read_whole(alloc, bytes)
 }
 
 // The module of a file that is not too large.
 fn read_whole(alloc: Global, bytes: &[u8]) -> Result<Module, ReadFault>
-    requires small { length bytes.now ≤ 2 ^ 22 }
+    requires small { length bytes.now < 2 ^ 32 }
     ensures whole { (after : Input) × Gives (λ parts. (parts, after)) result (whole_module.read (beginning bytes.now)) }
 {
     let mut cursor = Cursor::new(bytes, 0, bytes.len() as u32);
-    read_from(alloc, bytes, &mut cursor)
+    read_from(alloc, &mut cursor)
 }
 
 // The same, from the first byte on.
-fn read_from(alloc: Global, bytes: &[u8], cursor: &mut Cursor<'_>) -> Result<Module, ReadFault>
-    requires small { length bytes.now ≤ 2 ^ 22 }
-    requires tail { IsTail bytes.now cursor.old }
+fn read_from(alloc: Global, cursor: &mut Cursor<'_>) -> Result<Module, ReadFault>
     ensures { Gives (λ parts. (parts, cursor.new)) result (whole_module.read cursor.old) }
 {
     header(cursor)?;
     let mut progress = Progress::new(alloc);
-    read_sections(alloc, bytes, &mut progress, cursor)?;
+    read_sections(alloc, &mut progress, cursor)?;
     Ok(complete(progress, cursor)?)
 }
 
-// The header. Refused: 15 at another magic, at the file's first byte, and 16 at another version, behind the magic.
+// The header. Refused: `BadMagic` at another magic, at the file's first byte, and `BadVersion` at another version, behind the magic.
 fn header(cursor: &mut Cursor<'_>) -> Result<(), Fault>
     ensures { Tells (λ _. (tt {0}, cursor.new)) result (header_syntax.read cursor.old) }
 {
-    opens_with(
-        MAGIC,
-        Fault {
-            number: 15,
-            place: 0,
-        },
-        cursor,
-    )?;
-    opens_with(
-        VERSION,
-        Fault {
-            number: 16,
-            place: 4,
-        },
-        cursor,
-    )
+    opens_with(MAGIC, Refusal::BadMagic.at(0), cursor)?;
+    opens_with(VERSION, Refusal::BadVersion.at(4), cursor)
 }
 
 // Goes past just these bytes. Refused: with this fault where one differs.
@@ -105,30 +87,24 @@ fn opens_with(wanted: &[u8], fault: Fault, cursor: &mut Cursor<'_>) -> Result<()
 // All sections, up to the end of the file.
 fn read_sections(
     alloc: Global,
-    bytes: &[u8],
     progress: &mut Progress,
     cursor: &mut Cursor<'_>,
 ) -> Result<(), ReadFault>
-    requires small { length bytes.now ≤ 2 ^ 22 }
-    requires tail { IsTail bytes.now cursor.old }
     ensures { Gives (λ _. (progress.new, cursor.new)) result ((to_end one_section progress.old).read cursor.old) }
 {
     'sections: while !cursor.is_at_end() {
-        read_section(alloc, bytes, progress, cursor)?;
+        read_section(alloc, progress, cursor)?;
     }
     Ok(())
 }
 
-// The module, which has a body for each function. Refused: 20 where the section of bodies is missing, at the end of the file.
+// The module, which has a body for each function. Refused: `CountsDiffer` where the section of bodies is missing, at the end of the file.
 fn complete(progress: Progress, cursor: &Cursor<'_>) -> Result<Module, Fault>
-    ensures { Tells (λ parts. (parts, cursor.now)) result ((checked complete (or_fault 20) (given progress)).read cursor.now) }
+    ensures { Tells (λ parts. (parts, cursor.now)) result ((checked complete (or_fault CountsDiffer) (given progress)).read cursor.now) }
 {
     let module = progress.parts;
     if module.bodies.as_slice().len() != module.functions.as_slice().len() {
-        return Err(Fault {
-            number: 20,
-            place: cursor.at(),
-        });
+        return Err(Refusal::CountsDiffer.at(cursor.at()));
     }
     Ok(module)
 }

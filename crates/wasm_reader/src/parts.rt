@@ -1,26 +1,23 @@
-//! What the parts of a module are spelt with: counts, names, limits and constants (WebAssembly Core 1.0, sections 5.1.3, 5.2.4, 5.3 and 5.4.6).
-ghost use Rattle.std.specs.Prelude.{◌≡◌, ◌+◌, nat_lt, option_map};
+//! What the parts of a module are spelt with: counts, limits and constants (WebAssembly Core 1.0, sections 5.1.3, 5.3 and 5.4.6).
+ghost use Rattle.std.specs.Prelude.{◌≡◌, ◌+◌, nat_lt};
 ghost use Rattle.wasm_code.specs.Faults.{Tells};
 ghost use Rattle.wasm_reader.specs.Syntax.{byte, checked, limited, or_fault};
-ghost use Rattle.wasm_reader.specs.Parts.{as_text, tag, name, mutability, flag_of, greatest, table, memory, constant, constant_of, no_constant, constant_bits};
+ghost use Rattle.wasm_reader.specs.Parts.{tag, mutability, flag_of, greatest, table, memory, constant, constant_of, no_constant, constant_bits};
 
 use wasm_code::value_type;
-use wasm_ops::{Constant, Cursor, Fault, Limits, ValType};
+use wasm_ops::{Constant, Cursor, Fault, Limits, Refusal, ValType};
 
 // The greatest least size of a table.
 const MOST_ELEMENTS: u32 = 10_000;
 
-/// A count of things, which has to be within the limit with those before them. Refused: 21 at the count.
+/// A count of things, which has to be within the limit with those before them. Refused: `TooLarge` at the count.
 pub(crate) fn count(before: u64, most: u32, cursor: &mut Cursor<'_>) -> Result<u32, Fault>
     ensures { Tells (λ count. (count, cursor.new)) result ((limited before most).read cursor.old) }
 {
     let at = cursor.at();
     let count = cursor.u32_leb()?;
     if is_above(u64::from(most), before, count) {
-        return Err(Fault {
-            number: 21,
-            place: at,
-        });
+        return Err(Refusal::TooLarge.at(at));
     }
     Ok(count)
 }
@@ -32,87 +29,53 @@ fn is_above(most: u64, before: u64, count: u32) -> bool
     most < before || most - before < u64::from(count)
 }
 
-/// Goes past a byte that has to stand there. Refused: 8 at another one.
+/// Goes past a byte that has to stand there. Refused: `BadType` at another one.
 pub(crate) fn tag(wanted: u8, cursor: &mut Cursor<'_>) -> Result<u8, Fault>
     ensures { Tells (λ found. (found, cursor.new)) result ((tag wanted).read cursor.old) }
 {
     let at = cursor.at();
     let found = cursor.byte()?;
     if found != wanted {
-        return Err(Fault {
-            number: 8,
-            place: at,
-        });
+        return Err(Refusal::BadType.at(at));
     }
     Ok(found)
 }
 
-/// The text of a name. Refused: 4 at its first byte where it is no UTF-8.
-///
-/// `Cursor::name` tells only where the text lies; here it is wanted itself.
-pub(crate) fn name<'a>(cursor: &mut Cursor<'a>) -> Result<&'a str, Fault>
-    ensures { Tells (λ text. (text.now, cursor.new)) result (name.read cursor.old) }
-{
-    let count = cursor.u32_leb()?;
-    let at = cursor.at();
-    let bytes = cursor.take(count)?;
-    match text_of(bytes) {
-        Some(text) => Ok(text),
-        None => Err(Fault {
-            number: 4,
-            place: at,
-        }),
-    }
-}
-
-// The text that the bytes are in UTF-8.
-fn text_of(bytes: &[u8]) -> Option<&str>
-    ensures { option_map (λ text. text.now) result ≡ as_text bytes.now }
-{
-    match str::from_utf8(bytes) {
-        Ok(text) => Some(text),
-        Err(_) => None,
-    }
-}
-
-/// A byte that says no or yes. Refused: with this number at another byte.
-fn flag(refusal: u8, cursor: &mut Cursor<'_>) -> Result<bool, Fault>
-    ensures { Tells (λ flag. (flag, cursor.new)) result ((checked flag_of (or_fault refusal) byte).read cursor.old) }
+/// A byte that says no or yes. Refused: as this at another byte.
+fn flag(why: Refusal, cursor: &mut Cursor<'_>) -> Result<bool, Fault>
+    ensures { Tells (λ flag. (flag, cursor.new)) result ((checked flag_of (or_fault why) byte).read cursor.old) }
 {
     let at = cursor.at();
     match cursor.byte()? {
         0 => Ok(false),
         1 => Ok(true),
-        _ => Err(Fault {
-            number: refusal,
-            place: at,
-        }),
+        _ => Err(why.at(at)),
     }
 }
 
-/// Whether a global may be set. Refused: 22 at another byte than 00 and 01.
+/// Whether a global may be set. Refused: `BadKind` at another byte than 00 and 01.
 pub(crate) fn mutability(cursor: &mut Cursor<'_>) -> Result<bool, Fault>
     ensures { Tells (λ mutable. (mutable, cursor.new)) result (mutability.read cursor.old) }
 {
-    flag(22, cursor)
+    flag(Refusal::BadKind, cursor)
 }
 
-/// A table: its element type and its limits. Refused: 8 at another type than `funcref`, 23 at limits of another form, 21 at a least size that is too large.
+/// A table: its element type and its limits. Refused: `BadType` at another type than `funcref`, `BadLimits` at limits of another form, `TooLarge` at a least size that is too large.
 pub(crate) fn table(cursor: &mut Cursor<'_>) -> Result<Limits, Fault>
     ensures { Tells (λ limits. (limits, cursor.new)) result (table.read cursor.old) }
 {
     tag(0x70, cursor)?;
-    let has_most = flag(23, cursor)?;
+    let has_most = flag(Refusal::BadLimits, cursor)?;
     let least = count(0, MOST_ELEMENTS, cursor)?;
     let most = greatest(has_most, cursor)?;
     Ok(Limits { least, most })
 }
 
-/// A memory: its limits, in pages. Refused: 23 at limits of another form.
+/// A memory: its limits, in pages. Refused: `BadLimits` at limits of another form.
 pub(crate) fn memory(cursor: &mut Cursor<'_>) -> Result<Limits, Fault>
     ensures { Tells (λ limits. (limits, cursor.new)) result (memory.read cursor.old) }
 {
-    let has_most = flag(23, cursor)?;
+    let has_most = flag(Refusal::BadLimits, cursor)?;
     let least = cursor.u32_leb()?;
     let most = greatest(has_most, cursor)?;
     Ok(Limits { least, most })
@@ -128,7 +91,7 @@ fn greatest(has_most: bool, cursor: &mut Cursor<'_>) -> Result<Option<u32>, Faul
     Ok(Some(cursor.u32_leb()?))
 }
 
-/// A constant. Refused: 5 at `f32.const` and `f64.const`, 24 at another operator, and at another byte than `end` behind the number.
+/// A constant. Refused: `FloatOperator` at `f32.const` and `f64.const`, `BadConstant` at another operator, and at another byte than `end` behind the number.
 pub(crate) fn constant(cursor: &mut Cursor<'_>) -> Result<Constant, Fault>
     ensures { Tells (λ constant. (constant, cursor.new)) result (constant.read cursor.old) }
 {
@@ -137,10 +100,7 @@ pub(crate) fn constant(cursor: &mut Cursor<'_>) -> Result<Constant, Fault>
     let at = cursor.at();
     let end = cursor.byte()?;
     if end != 0x0B {
-        return Err(Fault {
-            number: 24,
-            place: at,
-        });
+        return Err(Refusal::BadConstant.at(at));
     }
     Ok(Constant { value, bits })
 }
@@ -153,14 +113,8 @@ fn constant_type(cursor: &mut Cursor<'_>) -> Result<ValType, Fault>
     match cursor.byte()? {
         0x41 => Ok(ValType::I32),
         0x42 => Ok(ValType::I64),
-        0x43 | 0x44 => Err(Fault {
-            number: 5,
-            place: at,
-        }),
-        _ => Err(Fault {
-            number: 24,
-            place: at,
-        }),
+        0x43 | 0x44 => Err(Refusal::FloatOperator.at(at)),
+        _ => Err(Refusal::BadConstant.at(at)),
     }
 }
 

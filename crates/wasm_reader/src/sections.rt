@@ -1,19 +1,19 @@
 //! The sections of a module, in their order (WebAssembly Core 1.0, sections 5.5.2 and 5.5.3).
-ghost use Rattle.std.specs.Prelude.{◌≡◌, ◌+◌, ◌<◌, ◌≤◌, ◌^◌, take, drop, length, IfOk, OnOk};
+ghost use Rattle.std.specs.Prelude.{◌≡◌};
 ghost use Rattle.wasm_code.specs.Faults.{Tells};
 ghost use Rattle.wasm_reader.specs.Modules.{at_start};
 ghost use Rattle.wasm_reader.specs.Outcome.{Gives};
-ghost use Rattle.wasm_reader.specs.Sections.{IsTail, content as content_syntax, id_of, is_behind, one_section, part_of, rising, section_content as section_content_syntax, section_id as section_id_syntax, section_of, told_in};
-ghost use Rattle.wasm_reader.specs.Syntax.{number};
+ghost use Rattle.wasm_reader.specs.Sections.{id_of, is_behind, one_section, part_of, rising, section_content as section_content_syntax, section_id as section_id_syntax, section_of};
 
-use crate::bodies::{bodies, section_fault};
+use crate::bodies::{Bodies, body_count};
 use crate::faults::ReadFault;
 use crate::imports::{Imported, MOST_FUNCTIONS, MOST_GLOBALS, imports};
-use crate::parts::name;
-use crate::sizes::{memories, tables};
-use crate::vectors::{vector, vector_within};
+use crate::items::{
+    DataSegments, ElementSegments, Exports, FunctionTypes, Globals, Indices, Memories, Tables,
+};
+use crate::vectors::{items, vector, vector_within};
 use std::alloc::Global;
-use wasm_ops::{Cursor, Fault, Items, Module};
+use wasm_ops::{Cursor, Fault, Items, Module, Refusal};
 
 // The most function types of a module.
 const MOST_TYPES: u32 = 1_000;
@@ -141,54 +141,31 @@ impl Progress {
     }
 }
 
-/// The next section, of a file whose bytes from the cursor on are left.
+/// The next section.
 pub(crate) fn read_section(
     alloc: Global,
-    bytes: &[u8],
     progress: &mut Progress,
     cursor: &mut Cursor<'_>,
 ) -> Result<(), ReadFault>
-    requires small { length bytes.now ≤ 2 ^ 22 }
-    requires tail { IsTail bytes.now cursor.old }
-    ensures read { Gives (λ _. (progress.new, cursor.new)) result ((one_section progress.old).read cursor.old) }
-    ensures tail { OnOk result (IsTail bytes.now cursor.new) }
-    ensures shorter { OnOk result (length cursor.new.left < length cursor.old.left) }
+    ensures { Gives (λ _. (progress.new, cursor.new)) result ((one_section progress.old).read cursor.old) }
 {
     let section = section_id(progress.last, cursor)?;
-    let size = section_size(cursor)?;
-    let at = cursor.at();
-    cursor.take(size)?;
-    let mut window = window(bytes, at, size);
+    let size = cursor.u32_leb()?;
+    let mut window = cursor.window(size, Refusal::SectionSize)?;
     section_content(alloc, section, progress, &mut window)
 }
 
-// The bytes of a section, with the places that they have in the file.
-fn window(bytes: &[u8], at: u32, size: u32) -> Cursor<'_>
-    requires within { at + size ≤ length bytes.now }
-    requires small { length bytes.now ≤ 2 ^ 22 }
-    ensures at { result.at ≡ at }
-    ensures left { result.left ≡ take size (drop at bytes.now) }
-{
-    Cursor::new(bytes, at, at + size)
-}
-
-// What the next section holds. Refused: 19 at an unknown id, and 17 at one that does not stand behind the last one.
+// What the next section holds. Refused: `UnknownSection` at an unknown id, and `SectionOrder` at one that does not stand behind the last one.
 fn section_id(last: Option<Part>, cursor: &mut Cursor<'_>) -> Result<Section, Fault>
     ensures { Tells (λ section. (section, cursor.new)) result ((section_id_syntax last).read cursor.old) }
 {
     let at = cursor.at();
     let Some(section) = Section::of(cursor.byte()?) else {
-        return Err(Fault {
-            number: 19,
-            place: at,
-        });
+        return Err(Refusal::UnknownSection.at(at));
     };
     match rising(last, section) {
         Some(section) => Ok(section),
-        None => Err(Fault {
-            number: 17,
-            place: at,
-        }),
+        None => Err(Refusal::SectionOrder.at(at)),
     }
 }
 
@@ -213,15 +190,6 @@ fn is_behind(last: Option<Part>, part: Part) -> bool
     }
 }
 
-// The size of what stands in a section.
-fn section_size(cursor: &mut Cursor<'_>) -> Result<u32, Fault>
-    ensures read { Tells (λ size. (size, cursor.new)) result (number.read cursor.old) }
-    ensures found { IfOk result (λ size. number.Reads cursor.old size cursor.new) }
-    ensures shorter { OnOk result (length cursor.new.left < length cursor.old.left) }
-{
-    cursor.u32_leb()
-}
-
 // What stands in a section. Of a custom one only the name is read.
 fn section_content(
     alloc: Global,
@@ -229,107 +197,62 @@ fn section_content(
     progress: &mut Progress,
     window: &mut Cursor<'_>,
 ) -> Result<(), ReadFault>
-    requires small { length window.old.left ≤ 2 ^ 22 }
     ensures { Gives (λ _. (progress.new, window.new)) result ((section_content_syntax section progress.old).read window.old) }
 {
     match section {
-        Section::Custom => match name(window) {
-            Ok(_) => Ok(()),
-            Err(fault) => Err(ReadFault::Bytes(section_fault(fault))),
-        },
+        Section::Custom => {
+            window.text()?;
+        }
         Section::Part(part) => {
-            content(alloc, part, &mut progress.parts, window)?;
+            read_part(alloc, part, &mut progress.parts, window)?;
             if !window.is_at_end() {
-                return Err(ReadFault::Bytes(Fault {
-                    number: 18,
-                    place: window.at(),
-                }));
+                return Err(ReadFault::Bytes(Refusal::SectionSize.at(window.at())));
             }
             progress.last = Some(part);
-            Ok(())
         }
     }
+    Ok(())
 }
 
-// One more part of a module, with the refusals as the section tells them.
-fn content(
-    alloc: Global,
-    part: Part,
-    parts: &mut Module,
-    window: &mut Cursor<'_>,
-) -> Result<(), ReadFault>
-    requires small { length window.old.left ≤ 2 ^ 22 }
-    ensures { Gives (λ _. (parts.new, window.new)) result ((content_syntax part parts.old).read window.old) }
-{
-    match read_part(alloc, part, parts, window) {
-        Ok(()) => Ok(()),
-        Err(ReadFault::Bytes(fault)) => Err(ReadFault::Bytes(told(part, fault))),
-        Err(ReadFault::NoMemory) => Err(ReadFault::NoMemory),
-    }
-}
-
-// How the section of a part tells the refusal of what it holds.
-fn told(part: Part, fault: Fault) -> Fault
-    ensures { result ≡ told_in part fault }
-{
-    match part {
-        Part::Bodies => fault,
-        Part::Types
-        | Part::Imports
-        | Part::Functions
-        | Part::Tables
-        | Part::Memories
-        | Part::Globals
-        | Part::Exports
-        | Part::Start
-        | Part::Elements
-        | Part::Segments => section_fault(fault),
-    }
-}
-
-// One more part of a module, with the refusals as they come.
+// One more part of a module.
 fn read_part(
     alloc: Global,
     part: Part,
     parts: &mut Module,
     window: &mut Cursor<'_>,
 ) -> Result<(), ReadFault>
-    requires small { length window.old.left ≤ 2 ^ 22 }
     ensures { Gives (λ _. (parts.new, window.new)) result ((part_of part parts.old).read window.old) }
 {
     match part {
         Part::Types => {
-            parts.types = Items::new(vector_within(alloc, 0, MOST_TYPES, window)?);
+            let types = vector_within(alloc, 0, MOST_TYPES, FunctionTypes, window)?;
+            parts.types = Items::new(types);
         }
-        Part::Imports => parts.imports = Items::new(imports(alloc, window)?),
+        Part::Imports => {
+            parts.imports = Items::new(imports(alloc, window)?);
+        }
         Part::Functions => {
-            let imported = Imported::of(parts.imports.as_slice());
-            parts.functions = Items::new(vector_within(
-                alloc,
-                imported.functions,
-                MOST_FUNCTIONS,
-                window,
-            )?);
+            let before = Imported::of(parts.imports.as_slice()).functions;
+            let functions = vector_within(alloc, before, MOST_FUNCTIONS, Indices, window)?;
+            parts.functions = Items::new(functions);
         }
-        Part::Tables => parts.tables = Items::new(tables(alloc, window)?),
-        Part::Memories => parts.memories = Items::new(memories(alloc, window)?),
+        Part::Tables => parts.tables = Items::new(vector(alloc, Tables, window)?),
+        Part::Memories => parts.memories = Items::new(vector(alloc, Memories, window)?),
         Part::Globals => {
-            let imported = Imported::of(parts.imports.as_slice());
-            parts.globals = Items::new(vector_within(
-                alloc,
-                imported.globals,
-                MOST_GLOBALS,
-                window,
-            )?);
+            let before = Imported::of(parts.imports.as_slice()).globals;
+            let globals = vector_within(alloc, before, MOST_GLOBALS, Globals, window)?;
+            parts.globals = Items::new(globals);
         }
-        Part::Exports => parts.exports = Items::new(vector(alloc, window)?),
+        Part::Exports => parts.exports = Items::new(vector(alloc, Exports, window)?),
         Part::Start => parts.start = Some(window.u32_leb()?),
-        Part::Elements => parts.elements = Items::new(vector(alloc, window)?),
-        Part::Bodies => {
-            let functions = parts.functions.as_slice().len();
-            parts.bodies = Items::new(bodies(alloc, functions, window)?);
+        Part::Elements => {
+            parts.elements = Items::new(vector(alloc, ElementSegments, window)?);
         }
-        Part::Segments => parts.segments = Items::new(vector(alloc, window)?),
+        Part::Bodies => {
+            let count = body_count(parts.functions.as_slice().len(), window)?;
+            parts.bodies = Items::new(items(alloc, Bodies, count, window)?);
+        }
+        Part::Segments => parts.segments = Items::new(vector(alloc, DataSegments, window)?),
     }
     Ok(())
 }

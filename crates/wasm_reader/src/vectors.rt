@@ -1,51 +1,69 @@
 //! Vectors (WebAssembly Core 1.0, section 5.1.3).
-ghost use Rattle.std.specs.Prelude.{[]};
+ghost use Rattle.std.specs.Prelude.{◌≡◌, [], IfOk};
 ghost use Rattle.wasm_reader.specs.Outcome.{Gives};
-ghost use Rattle.wasm_reader.specs.Syntax.{Syntax, items_from, vector, vector_within};
+ghost use Rattle.wasm_reader.specs.Syntax.{Syntax, items_from, kept, limited, number, vector_of, ◌⨾◌};
 
 use crate::faults::ReadFault;
 use crate::parts::count;
 use std::alloc::Global;
 use wasm_ops::Cursor;
 
-/// What a vector is made of: things of one kind, each spelt without regard to the others.
-pub(crate) trait Item: Sized + Drop {
-    /// How one is spelt.
-    ghost syntax: { Syntax Self };
+/// What a vector is made of: things of one kind. A value of the kind keeps what has to be known of those that came before.
+pub(crate) trait Kind: Sized + Drop {
+    /// One of them.
+    type Item: Drop;
+
+    /// How the next one is spelt.
+    ghost syntax: { Self → Syntax Self.Item };
+
+    /// What is known behind one more.
+    ghost after: { Self → Self.Item → Self };
 
     /// The next one.
-    fn read(alloc: Global, cursor: &mut Cursor<'_>) -> Result<Self, ReadFault>
-        ensures { Gives (λ item. (item, cursor.new)) result (syntax.read cursor.old) };
+    fn next(&mut self, alloc: Global, cursor: &mut Cursor<'_>) -> Result<Self::Item, ReadFault>
+        ensures read { Gives (λ item. (item, cursor.new)) result ((syntax self.old).read cursor.old) }
+        ensures known { IfOk result (λ item. self.new ≡ after self.old item) };
 }
 
-// So many things, one behind another.
-fn items<T: Item>(alloc: Global, count: u32, cursor: &mut Cursor<'_>) -> Result<Vec<T>, ReadFault>
-    ensures { Gives (λ items. (items.items, cursor.new)) result (items_from count (λ so_far. T.syntax) [] cursor.old) }
+/// So many things, one behind another.
+pub(crate) fn items<K: Kind>(
+    alloc: Global,
+    kind: K,
+    count: u32,
+    cursor: &mut Cursor<'_>,
+) -> Result<Vec<K::Item>, ReadFault>
+    ensures { Gives (λ items. (items.items, cursor.new)) result (items_from count (λ so_far. K.syntax (kept K.after kind so_far)) [] cursor.old) }
 {
+    let mut kind = kind;
     let mut items = Vec::new(alloc);
     for _ in 0..count {
-        items.push(T::read(alloc, cursor)?)?;
+        items.push(kind.next(alloc, cursor)?)?;
     }
     Ok(items)
 }
 
 /// A vector: a count, and so many things.
-pub(crate) fn vector<T: Item>(alloc: Global, cursor: &mut Cursor<'_>) -> Result<Vec<T>, ReadFault>
-    ensures { Gives (λ items. (items.items, cursor.new)) result ((vector T.syntax).read cursor.old) }
+pub(crate) fn vector<K: Kind>(
+    alloc: Global,
+    kind: K,
+    cursor: &mut Cursor<'_>,
+) -> Result<Vec<K::Item>, ReadFault>
+    ensures { Gives (λ items. (items.items, cursor.new)) result ((vector_of number (λ so_far. K.syntax (kept K.after kind so_far))).read cursor.old) }
 {
     let count = cursor.u32_leb()?;
-    items(alloc, count, cursor)
+    items(alloc, kind, count, cursor)
 }
 
-/// A vector of at most so many things, with those before them. Refused: 21 at its count.
-pub(crate) fn vector_within<T: Item>(
+/// A vector of at most so many things, with those before them. Refused: `TooLarge` at its count.
+pub(crate) fn vector_within<K: Kind>(
     alloc: Global,
     before: u64,
     most: u32,
+    kind: K,
     cursor: &mut Cursor<'_>,
-) -> Result<Vec<T>, ReadFault>
-    ensures { Gives (λ items. (items.items, cursor.new)) result ((vector_within before most T.syntax).read cursor.old) }
+) -> Result<Vec<K::Item>, ReadFault>
+    ensures { Gives (λ items. (items.items, cursor.new)) result ((vector_of (limited before most) (λ so_far. K.syntax (kept K.after kind so_far))).read cursor.old) }
 {
     let count = count(before, most, cursor)?;
-    items(alloc, count, cursor)
+    items(alloc, kind, count, cursor)
 }

@@ -1,6 +1,6 @@
 -- The imports so far are counted.
 use Rattle.std.proofs.Common.{◌≡◌, take}
-use Rattle.wasm_reader.specs.Contents.{imported_functions, imported_globals}
+use Rattle.wasm_ops.specs.Limits.{imported_functions, imported_globals}
 use Rattle.wasm_reader.proofs.imports.Imported.of.Given as goal
 
 abbrev pub invariant-loop-import : goal.invariant-loop-import

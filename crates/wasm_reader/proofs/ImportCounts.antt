@@ -69,6 +69,20 @@ globals_fit functions globals kind.Table room fits = omega arith
 globals_fit functions globals kind.Memory room fits = omega arith
 globals_fit functions globals kind.Global room fits = let few = ltb-true globals 1000 room in omega arith
 
+-- and it is within the limit
+
+pub functions_room : (functions globals : ℕ) (k : ImportKind) → has_room functions globals k ≡ true → functions ≤ 10000 → functions + functions_of k ≤ 10000
+functions_room functions globals kind.Function room fits = let few = ltb-true functions 10000 room in omega arith
+functions_room functions globals kind.Table room fits = omega arith
+functions_room functions globals kind.Memory room fits = omega arith
+functions_room functions globals kind.Global room fits = omega arith
+
+pub globals_room : (functions globals : ℕ) (k : ImportKind) → has_room functions globals k ≡ true → globals ≤ 1000 → globals + globals_of k ≤ 1000
+globals_room functions globals kind.Function room fits = omega arith
+globals_room functions globals kind.Table room fits = omega arith
+globals_room functions globals kind.Memory room fits = omega arith
+globals_room functions globals kind.Global room fits = let few = ltb-true globals 1000 room in omega arith
+
 -- what is kept of imports are their counts
 
 kept_functions : (imported : Imported) (imports : List Import) → (kept with_import imported imports).functions ≡ imported.functions + imported_functions imports

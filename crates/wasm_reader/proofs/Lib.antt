@@ -1,5 +1,6 @@
 pub mod BodyLaws
 pub mod ContentLaws
+pub mod FormedModules
 pub mod ImportCounts
 pub mod ItemLaws
 pub mod Loops
@@ -9,4 +10,6 @@ pub mod PartLaws
 pub mod SectionLaws
 pub mod SectionSteps
 pub mod StepLaws
+pub mod StructureLaws
 pub mod SyntaxLaws
+pub mod Yields

@@ -5,4 +5,5 @@ pub mod Modules
 pub mod Outcome
 pub mod Parts
 pub mod Sections
+pub mod Structure
 pub mod Syntax

@@ -4,6 +4,7 @@ ghost use Rattle.wasm_ops.specs.declared.faults.Fault.{Fault as FaultValue};
 ghost use Rattle.wasm_ops.specs.declared.faults.Refusal.TheVariants.{CountsDiffer};
 ghost use Rattle.wasm_ops.specs.declared.modules.Module.{Module as ModuleValue};
 ghost use Rattle.wasm_ops.specs.Input.{Input};
+ghost use Rattle.wasm_ops.specs.WellFormed.{IsWellFormed};
 ghost use Rattle.wasm_code.specs.Bodies.{beginning};
 ghost use Rattle.wasm_code.specs.Faults.{Tells};
 ghost use Rattle.wasm_reader.specs.Modules.{SpellsModule, RefusesModule, complete, header as header_syntax, opens_with as opens_with_syntax, whole_module};
@@ -32,6 +33,7 @@ const VERSION: &[u8] = &[1, 0, 0, 0];
 /// It is one pass over the bytes, which takes memory for the answer, and for the blocks that are open in the body at hand.
 pub fn read_module(alloc: Global, bytes: &[u8]) -> Result<Module, ReadFault>
     ensures found { IfOk result (λ parts. SpellsModule bytes.now parts) }
+    ensures formed { IfOk result (λ parts. IsWellFormed parts) }
     ensures refused { IfErr result (λ fault. IsAmong fault (RefusesModule bytes.now)) }
 
     // No other answer is possible, but for want of memory.

@@ -4,8 +4,10 @@
     read_module.py       builds the program where it is not built, by the script `sledge` at the top
 
 For each kind of module it prints both times in milliseconds and their ratio: where reading is linear, the
-ratio is 2. A time is the least of several runs, without that of a file which is the header alone. The
-modules are read and not run, so each run has to end with `module 90 0 0` and exit status 5.
+ratio is 2. A time is the least of several runs, without that of a file which is the header alone. Then it
+prints the most memory that was resident while a module of nearly 4 MiB was read whose one body is all `nop`:
+there each byte is an operator. The modules are read and not run, so each run has to end with `module 90 0 0`
+and exit status 5.
 """
 
 import os
@@ -25,6 +27,7 @@ ROOM = 128
 HEADER = b"\0asm\x01\0\0\0"
 TYPES = bytes.fromhex("01 04 01 60 00 00")
 CONST_AND_DROP = bytes.fromhex("41 07 1A")
+NOP = b"\x01"
 END = b"\x0b"
 
 
@@ -63,6 +66,10 @@ def one_body(size):
     return functions([b"\0" + CONST_AND_DROP * ((size - ROOM) // len(CONST_AND_DROP)) + END])
 
 
+def all_nop(size):
+    return functions([b"\0" + NOP * (size - ROOM) + END])
+
+
 def one_custom_section(size):
     return HEADER + section(0, sized(b"long") + bytes(size - ROOM))
 
@@ -89,6 +96,18 @@ def least_time(folder, content):
     return least
 
 
+def resident_memory(folder, content):
+    """The most memory that was resident in a run on a module with these bytes, in MiB."""
+    with open(os.path.join(folder, "module"), "wb") as file:
+        file.write(content)
+    words = [PROGRAM, "invoke", "module", "body", "10"]
+    with subprocess.Popen(words, cwd=folder, stdout=subprocess.DEVNULL, stderr=subprocess.DEVNULL) as run:
+        _, status, usage = os.wait4(run.pid, 0)
+        run.returncode = os.waitstatus_to_exitcode(status)
+    assert run.returncode == 5, run.returncode
+    return usage.ru_maxrss / 1024
+
+
 def main():
     subprocess.run([SCRIPT, "--version"], stdout=subprocess.DEVNULL, check=True)
     with tempfile.TemporaryDirectory() as folder:
@@ -101,6 +120,8 @@ def main():
             assert MOST_BYTES - 1024 < len(whole) <= MOST_BYTES, len(whole)
             times = [max(least_time(folder, content) - start, 0.001) for content in (half, whole)]
             print(f"{name}: {len(half)} bytes {times[0]:.1f} ms, {len(whole)} bytes {times[1]:.1f} ms, ratio {times[1] / times[0]:.2f}")
+        content = all_nop(MOST_BYTES)
+        print(f"one body of nop: {len(content)} bytes, {resident_memory(folder, content):.0f} MiB resident")
 
 
 sys.exit(main())

@@ -1,9 +1,12 @@
 #!/usr/bin/env python3
-"""Compares what the built program says of thousands of changed modules with a reader that is written from the format alone.
+"""Runs the built program on modules at their limits, on each cut of two modules, and on thousands of changed modules.
 
     modules.py [COUNT [SEED]]       builds the program where it is not built, by the script `sledge` at the top
 
-Each file is one of a few modules with up to three changes: a byte set, put in or taken out, a number made longer, a piece
+What is wanted of the first two stands in the tables here, after docs/FORMATS.md. What the program says of a changed module
+is compared with a reader that is written from the format alone.
+
+Each changed file is one of a few modules with up to three changes: a byte set, put in or taken out, a number made longer, a piece
 doubled, the file cut. A refused file has to be refused with the same number at the same place; any other one has to be
 read, which shows as `module 90 0 0` or as a reply. The changes are the same in each run (SEED), and the summary says how
 often each number came.
@@ -17,6 +20,7 @@ import sys
 import tempfile
 
 import module_reader
+import module_table
 
 TOP = os.path.join(os.path.dirname(os.path.abspath(__file__)), "..")
 SCRIPT = os.path.join(TOP, "sledge")
@@ -72,6 +76,58 @@ MODULES = [
         (0, "01 62 FF"),
     ),
 ]
+
+# Files at a limit and just above it: what stands before an item, in hexadecimal behind the header; the item; how often it
+# stands there; what is behind, and how often; the refusal, if there is one. A place is counted from the file's first byte.
+LIMITS = [
+    # 1,000 types, parameters of one, imported globals, globals, and these with an imported one; 10,000 imported functions.
+    ("01 BA 17 E8 07", "60 00 00", 1000, "", 0, None),
+    ("01 ED 07 01 60 E8 07", "7E", 1000, "00", 1, None),
+    ("02 8A 27 E8 07", "00 00 03 7F 00", 1000, "", 0, None),
+    ("06 8A 27 E8 07", "7F 00 41 00 0B", 1000, "", 0, None),
+    ("02 06 01 00 00 03 7F 00 06 85 27 E7 07", "7F 00 41 00 0B", 999, "", 0, None),
+    ("02 C2 B8 02 90 4E", "00 00 00 00", 10_000, "", 0, None),
+    # One more: refused at the count, and for an import at the kind of the one too many.
+    ("01 BD 17 E9 07", "60 00 00", 1001, "", 0, (21, 11)),
+    ("01 EE 07 01 60 E9 07", "7E", 1001, "00", 1, (21, 13)),
+    ("02 8F 27 E9 07", "00 00 03 7F 00", 1001, "", 0, (21, 5015)),
+    ("06 8F 27 E9 07", "7F 00 41 00 0B", 1001, "", 0, (21, 11)),
+    ("02 06 01 00 00 03 7F 00 06 8A 27 E8 07", "7F 00 41 00 0B", 1000, "", 0, (21, 19)),
+    ("02 C6 B8 02 91 4E", "00 00 00 00", 10_001, "", 0, (21, 40_016)),
+    # 10,000 functions with a body each, and 9,999 with an imported one.
+    ("03 92 4E 90 4E" + "00" * 10_000 + "0A B2 EA 01 90 4E", "02 00 0B", 10_000, "", 0, None),
+    ("02 05 01 00 00 00 00 03 91 4E 8F 4E" + "00" * 9_999 + "0A AF EA 01 8F 4E", "02 00 0B", 9_999, "", 0, None),
+    # One function, whose body opens 1,000 blocks, and one whose body opens another one.
+    ("03 02 01 00 0A BD 17 01 BA 17 00", "02 40", 1000, "0B", 1001, None),
+    ("03 02 01 00 0A BD 17 01 BA 17 00", "03 7E", 1000, "0B", 1001, None),
+    ("03 02 01 00 0A C0 17 01 BD 17 00", "02 40", 1001, "0B", 1002, (10, 2019)),
+    ("03 02 01 00 0A C0 17 01 BD 17 00", "03 7E", 1001, "0B", 1002, (10, 2019)),
+    # A custom section that fills 4 MiB, and the same file with one byte more.
+    ("00 F3 FF FF 01", "00", 4_194_291, "", 0, None),
+    ("00 F3 FF FF 01", "00", 4_194_292, "", 0, (21, 0)),
+]
+
+
+def limit_files():
+    for front, item, count, back, times, refusal in LIMITS:
+        sections = bytes.fromhex(front) + bytes.fromhex(item) * count + bytes.fromhex(back) * times
+        yield f"{front[:40]} with {count} times {item}", module_reader.HEADER + sections, refusal
+
+
+# Modules, and where their sections end: there a cut module is read, or as many bodies as functions are missing.
+CUTS = [
+    (module_table.NOTHING, (8, 14), (18, 30)),
+    (module_table.ECHO, (8, 22, 92, 253), (96, 101, 111, 132)),
+]
+
+
+def cut_files():
+    for spelling, read, without_bodies in CUTS:
+        whole = bytes.fromhex(spelling)
+        for length in range(len(whole)):
+            refusal = None if length in read else (20 if length in without_bodies else 1, length)
+            yield f"the first {length} of {len(whole)} bytes", whole[:length], refusal
+
 
 # Bytes on which something turns.
 TELLING = [0x00, 0x01, 0x02, 0x04, 0x05, 0x0B, 0x0C, 0x0E, 0x10, 0x40, 0x41, 0x43, 0x60, 0x70, 0x7C, 0x7D, 0x7E, 0x7F, 0x80, 0xC3, 0xFF]
@@ -142,9 +198,15 @@ def main():
     subprocess.run([SCRIPT, "--version"], stdout=subprocess.DEVNULL, check=True)
     seen = collections.Counter()
     failed = 0
+    tables = [*limit_files(), *cut_files()]
     with tempfile.TemporaryDirectory() as folder:
         with open(os.path.join(folder, "body"), "wb"):
             pass
+        for title, data, refusal in tables:
+            status, note = note_of(folder, data)
+            if not agrees(status, note, refusal) or module_reader.refusal(data) != refusal:
+                failed += 1
+                print(f"{title}: wanted {refusal}, got status {status} and {note!r}")
         for _ in range(count):
             data = changed_module(rng)
             refusal = module_reader.refusal(data)
@@ -154,7 +216,7 @@ def main():
                 failed += 1
                 print(f"{data.hex(' ')}: wanted {refusal}, got status {status} and {note!r}")
     print("read: %d; refused: %s" % (seen.pop(0, 0), ", ".join(f"{number} {times} times" for number, times in sorted(seen.items()))))
-    print(f"{count - failed} passed, {failed} failed")
+    print(f"{len(tables) + count - failed} passed, {failed} failed")
     return failed != 0
 
 

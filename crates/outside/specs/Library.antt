@@ -1,6 +1,7 @@
 -- What a library holds, which bytes a read of it answers, and when each of its answers other than bytes comes.
-use Rattle.std.specs.Prelude.{◌≡◌, ℕ, ◌+◌, List, Option, None, Some, IfSome, take, ⊤}
+use Rattle.std.specs.Prelude.{◌≡◌, ℕ, ◌+◌, ◌≤◌, List, Option, None, Some, Result, Ok, Err, IfSome, take, Vec, ⊤}
 use Rattle.std.specs.Option.{option_map}
+use Rattle.std.specs.declared.alloc.Global.{Global}
 use Rattle.outside.specs.Faults.{Rose}
 use Rattle.outside.specs.declared.libraries.Fetch.{Fetch}
 use Rattle.outside.specs.declared.libraries.Fetch.TheVariants.{Failed, Missing, NoMemory}
@@ -9,14 +10,43 @@ use Rattle.outside.specs.declared.libraries.Fetch.TheVariants.{Failed, Missing, 
 abbrev pub Files : Type 0
 Files = List ℕ → Option (List ℕ)
 
+-- a library as contracts see it: which names it holds and with what bytes, where it tells that,
+-- and how many of its calls have failed
+pub record LibraryState : Type 0 where
+  pub held : Option Files
+  pub faults : ℕ
+
 -- where the library tells what it holds: a file has the name, and these are its first most + 1 bytes,
 -- which are all of it where it has no more than most
-abbrev pub Held : Option Files → List ℕ → ℕ → List ℕ → Type 0
+abbrev pub Held : Option Files → (name : List ℕ) → (most : ℕ) → (bytes : List ℕ) → Type 0
 Held held name most bytes = IfSome held (λ files. option_map (take (most + 1)) (files name) ≡ Some bytes)
 
+-- why a read said that no file has the name
+abbrev pub MissingCause : Option Files → (name : List ℕ) → (before now : ℕ) → Type 0
+MissingCause (Some files) name before now = (files name ≡ None) × (before ≡ now)
+MissingCause None name before now = Rose before now
+
 -- why a read answered no bytes; only want of memory has no cause
-abbrev pub FetchCause : Option Files → List ℕ → ℕ → ℕ → Fetch → Type 0
-FetchCause held name before now Failed = Rose before now
-FetchCause (Some files) name before now Missing = (files name ≡ None) × (before ≡ now)
-FetchCause None name before now Missing = Rose before now
-FetchCause held name before now NoMemory = ⊤
+abbrev pub FetchCause : (name : List ℕ) → (old new : LibraryState) → Fetch → Type 0
+FetchCause name old new Failed = Rose old.faults new.faults
+FetchCause name old new Missing = MissingCause old.held name old.faults new.faults
+FetchCause name old new NoMemory = ⊤
+
+-- what a read gave that did not fail: the bytes, or that no file has the name
+abbrev pub Given : Result (Vec ℕ Global) Fetch → (gave : Option (List ℕ) → Type 0) → Type 0
+Given (Ok bytes) gave = gave (Some bytes.items)
+Given (Err Missing) gave = gave None
+Given (Err Failed) gave = ⊤
+Given (Err NoMemory) gave = ⊤
+
+-- an answer is that of the held file, where the library tells it; else a name has no file only where the count rose
+abbrev pub IsTold : Option Files → (name : List ℕ) → (most before now : ℕ) → Option (List ℕ) → Type 0
+IsTold (Some files) name most before now answer = option_map (take (most + 1)) (files name) ≡ answer
+IsTold None name most before now None = Rose before now
+IsTold None name most before now (Some bytes) = ⊤
+
+-- what is known of an answer that a read gave between two states
+pub record Tells (old new : LibraryState) (name : List ℕ) (most : ℕ) (answer : Option (List ℕ)) : Type 0 where
+  pub told : IsTold old.held name most old.faults new.faults answer
+  pub same : new.held ≡ old.held
+  pub later : old.faults ≤ new.faults

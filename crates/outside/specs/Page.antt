@@ -1,7 +1,8 @@
 -- A sink in memory: what it has taken, where its calls are cut, and what each call takes and leaves.
-use Rattle.std.specs.Prelude.{◌≡◌, ◌==◌, ℕ, ◌+◌, ◌-◌, ◌≤◌, ◌++◌, min, Bool, cond, List, Option, None, find, length, take, unwrap_or}
+use Rattle.std.specs.Prelude.{◌≡◌, ◌==◌, ℕ, ◌+◌, ◌-◌, ◌≤◌, ◌++◌, min, Bool, cond, List, Option, None, Some, find, length, take, unwrap_or}
 use Rattle.std.specs.Option.{option_map}
 use Rattle.outside.specs.Faults.{one_more}
+use Rattle.outside.specs.Sink.{SinkState}
 use Rattle.outside.specs.declared.pages.Cut.{Cut}
 
 -- a page as contracts see it: the bytes that it has taken, how many it has room for, the calls
@@ -12,6 +13,10 @@ pub record Writing : Type 0 where
   pub failing : List Cut
   pub calls : ℕ
   pub faults : ℕ
+
+-- a page tells all that it has taken
+abbrev pub page_state : Writing → SinkState
+page_state p = record { written = Some p.bytes; faults = p.faults }
 
 -- how many bytes the next call lets pass, where it is cut; of two cuts of one call the first stands
 abbrev pub next_cut : Writing → Option ℕ

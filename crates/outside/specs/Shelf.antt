@@ -5,7 +5,7 @@ use Rattle.std.specs.List.{list_any}
 use Rattle.std.specs.Str.{bytes_eq}
 use Rattle.std.specs.declared.alloc.Global.{Global}
 use Rattle.outside.specs.Faults.{one_more}
-use Rattle.outside.specs.Library.{Files}
+use Rattle.outside.specs.Library.{Files, LibraryState, Tells}
 use Rattle.outside.specs.declared.libraries.Fetch.{Fetch}
 use Rattle.outside.specs.declared.libraries.Fetch.TheVariants.{Failed, Missing, NoMemory}
 
@@ -24,6 +24,14 @@ file_of file = (file.0, file.1.items)
 -- of several files with one name the first stands
 abbrev pub files_of : List (List ℕ × List ℕ) → Files
 files_of files name = option_map (λ file. file.1) (find (λ file. bytes_eq file.0 name) files)
+
+-- a shelf tells all that it holds
+abbrev pub shelf_state : Contents → LibraryState
+shelf_state s = record { held = Some (files_of s.files); faults = s.faults }
+
+-- what a shelf gave is what it holds
+abbrev pub ShelfGave : (old new : Contents) → (name : List ℕ) → (most : ℕ) → Option (List ℕ) → Type 0
+ShelfGave old new name most answer = Tells (shelf_state old) (shelf_state new) name most answer
 
 -- the next call is one of those that fail
 abbrev pub fails : Contents → Bool

@@ -1,20 +1,18 @@
 -- The bytes that a sink has taken, where it tells them, and what a delivery of bytes adds to them.
-use Rattle.std.specs.Prelude.{◌≡◌, ℕ, List, Option, Result, take, OnOk, OnErr}
+use Rattle.std.specs.Prelude.{◌≡◌, ℕ, List, Option, take}
 use Rattle.std.specs.Io.KnownBytes.{append_known}
-use Rattle.outside.specs.Faults.{FailsOnlyWhereRose}
+
+-- a sink as contracts see it: all the bytes that it has taken, where it tells them,
+-- and how many of its calls have failed
+pub record SinkState : Type 0 where
+  pub written : Option (List ℕ)
+  pub faults : ℕ
 
 -- the bytes were added, and a sink tells or does not tell as it did before
-pub record Appends (old new : Option (List ℕ)) (bytes : List ℕ) : Type 0 where
-  pub appended : new ≡ append_known old bytes
+pub record Appends (old new : SinkState) (bytes : List ℕ) : Type 0 where
+  pub appended : new.written ≡ append_known old.written bytes
 
 -- some of the bytes were added, from the first on
-pub record TakesPrefix (old new : Option (List ℕ)) (bytes : List ℕ) : Type 0 where
+pub record TakesPrefix (old new : SinkState) (bytes : List ℕ) : Type 0 where
   pub count : ℕ
   pub taken : Appends old new (take count bytes)
-
--- bytes were handed to a sink, in one call or in several: all were added, or it failed after
--- a prefix of them, and only where its count of faults rose
-pub record Delivers {T E : Type 0} (result : Result T E) (old new : Option (List ℕ)) (bytes : List ℕ) (before now : ℕ) : Type 0 where
-  pub all : OnOk result (Appends old new bytes)
-  pub some : OnErr result (TakesPrefix old new bytes)
-  pub cause : FailsOnlyWhereRose result before now

@@ -2,12 +2,12 @@
 //
 // They loop over `read` and `write` themselves, count each error, and go on after an interrupted
 // call. What a file of the system holds and what its streams take is trusted: no clause tells it.
-ghost use Rattle.std.specs.Prelude.{◌≡◌, ◌+◌, ◌≤◌, ℕ, List, length, take, None, IfOk, IfErr, OnOk, OnErr};
+ghost use Rattle.std.specs.Prelude.{◌≡◌, ◌+◌, ◌≤◌, ℕ, List, length, take, IfOk, IfErr, OnOk, OnErr};
 ghost use Rattle.std.specs.Io.KnownBytes.{Keeps, Appends as Gains};
 ghost use Rattle.outside.specs.Faults.{one_more, FailsOnlyWhereRose};
 ghost use Rattle.outside.specs.Sink.{Appends, TakesPrefix};
-ghost use Rattle.outside.specs.Counted.{GainsPrefix};
-ghost use Rattle.outside.specs.Library.{FetchCause};
+ghost use Rattle.outside.specs.Counted.{GainsPrefix, UntoldGave, untold_library, untold_sink};
+ghost use Rattle.outside.specs.Library.{FetchCause, Given};
 
 use crate::faults::Failed;
 use crate::libraries::{Fetch, Library};
@@ -69,8 +69,9 @@ impl<'a, R: Files> FileLibrary<'a, R> {
         file: &mut F,
         most: u64,
     ) -> Result<Vec<u8>, Fetch>
+        ensures given { (name : List ℕ) → Given result (UntoldGave self.old self.new name most) }
         ensures at_most { IfOk result (λ bytes. length bytes.items ≤ most + 1) }
-        ensures cause { (name : List ℕ) → IfErr result (FetchCause None name self.old self.new) }
+        ensures cause { (name : List ℕ) → IfErr result (FetchCause name (untold_library self.old) (untold_library self.new)) }
         ensures later { self.old ≤ self.new }
     {
         let mut bytes = Vec::new(alloc);
@@ -102,9 +103,11 @@ impl<'a, R: Files> FileLibrary<'a, R> {
 }
 
 impl<'a, R: Files> Library for FileLibrary<'a, R> {
-    ghost held = { λ _. None };
+    ghost state = { untold_library };
 
-    ghost fault_count = { λ faults. faults };
+    ghost gave = { UntoldGave };
+
+    ghost tells = { λ old new name most answer given. given };
 
     fn read(&mut self, alloc: Global, name: &str, most: u64) -> Result<Vec<u8>, Fetch> {
         match fs::open(self.files, name) {
@@ -210,13 +213,11 @@ impl<W: Write> StdSink<W> {
 }
 
 impl<W: Write> Sink for StdSink<W> {
-    ghost written = { λ _. None };
-
-    ghost fault_count = { λ sink. sink.faults };
+    ghost state = { λ sink. untold_sink sink.faults };
 
     fn write(&mut self, bytes: &[u8]) -> Result<(), Failed>
-        ensures ok { OnOk result (Appends None None bytes.now) }
-        ensures err { OnErr result (TakesPrefix None None bytes.now) }
+        ensures ok { OnOk result (Appends (untold_sink self.old.faults) (untold_sink self.new.faults) bytes.now) }
+        ensures err { OnErr result (TakesPrefix (untold_sink self.old.faults) (untold_sink self.new.faults) bytes.now) }
         ensures cause { FailsOnlyWhereRose result self.old.faults self.new.faults }
         ensures later { self.old.faults ≤ self.new.faults }
 

@@ -3,7 +3,8 @@
 //!
 //! A call fails only where the object's own count of faults rose in that call, so a layer above
 //! that answers with a fault can show that there was one. What a library holds, and which bytes a
-//! sink has taken, an object may tell in proofs, and then its answers are tied to that.
+//! sink has taken, an object may tell in proofs, and then its answers are tied to that. Of each
+//! library it is known besides which bytes its calls gave: only a call of `read` gives any.
 //!
 //! Two kinds of objects stand behind the traits. The forms in memory (`Shelf`, `Page`) tell
 //! everything, and fail exactly where they were told to. The adapters over the system

@@ -1,6 +1,6 @@
 // Where the files of the program come from.
-ghost use Rattle.std.specs.Prelude.{◌≡◌, ℕ, ◌+◌, ◌≤◌, length, IfOk, IfErr, Option};
-ghost use Rattle.outside.specs.Library.{Files, Held, FetchCause};
+ghost use Rattle.std.specs.Prelude.{◌≡◌, ℕ, ◌+◌, ◌≤◌, length, IfOk, IfErr, List, Option};
+ghost use Rattle.outside.specs.Library.{FetchCause, Given, Held, LibraryState, Tells};
 
 use std::alloc::Global;
 
@@ -17,27 +17,37 @@ pub enum Fetch {
 
 /// Files by their names.
 ///
-/// A library may tell which names it holds and with what bytes. No call changes that.
+/// A library may tell which names it holds and with what bytes. No call changes that. Of a library
+/// that does not tell, contracts still know which answers its calls gave: only a call of `read`
+/// gives one.
 pub trait Library {
-    // Which names it holds and with what bytes, or nothing where it does not tell.
-    ghost held: { Self → Option Files };
+    // What it holds, where it tells that, and how many calls have failed so far.
+    ghost state: { Self → LibraryState };
 
-    // How many calls have failed so far.
-    ghost fault_count: { Self → ℕ };
+    // A call of `read` between these two states, for this name and this limit, gave these bytes,
+    // or said that no file has the name.
+    ghost gave: { Self → Self → List ℕ → ℕ → Option (List ℕ) → Type 0 };
 
     /// The whole file of this name where it has at most `most` bytes, and else its first
     /// `most + 1` bytes, by which the caller sees that it is too long.
     fn read(&mut self, alloc: Global, name: &str, most: u64) -> Result<Vec<u8>, Fetch>
-        ensures bytes { IfOk result (λ bytes. Held (held self.old) name.now most bytes.items) }
+        ensures given { Given result (gave self.old self.new name.now most) }
+
+        // What is held is answered.
+        ensures bytes { IfOk result (λ bytes. Held (state self.old).held name.now most bytes.items) }
         ensures at_most { IfOk result (λ bytes. length bytes.items ≤ most + 1) }
 
         // `Failed` only where the count rose, and `Missing` only for a name that is not held.
-        ensures cause { IfErr result (FetchCause (held self.old) name.now (fault_count self.old) (fault_count self.new)) }
+        ensures cause { IfErr result (FetchCause name.now (state self.old) (state self.new)) }
 
-        ensures same { held self.new ≡ held self.old }
-        ensures later { fault_count self.old ≤ fault_count self.new };
+        ensures same { (state self.new).held ≡ (state self.old).held }
+        ensures later { (state self.old).faults ≤ (state self.new).faults };
 
     /// The count of faults, which never falls. Over real files it stops at its greatest value.
     fn faults(&self) -> u64
-        ensures { result ≡ fault_count self.now };
+        ensures { result ≡ (state self.now).faults };
+
+    // What was given is what the library holds, where it tells that.
+    ghost tells: { (old new : Self) (name : List ℕ) (most : ℕ) (answer : Option (List ℕ))
+        → gave old new name most answer → Tells (state old) (state new) name most answer };
 }

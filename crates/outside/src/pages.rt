@@ -1,8 +1,8 @@
 // A sink in memory.
-ghost use Rattle.std.specs.Prelude.{◌≡◌, ◌≤◌, ◌↔◌, [], length, is_ok, IfOk, OnOk, OnErr, IsOk, IsTrue, Some};
+ghost use Rattle.std.specs.Prelude.{◌≡◌, ◌≤◌, ◌↔◌, [], length, is_ok, IfOk, OnOk, OnErr, IsOk, IsTrue};
 ghost use Rattle.outside.specs.Faults.{FailsOnlyWhereRose};
 ghost use Rattle.outside.specs.Sink.{Appends, TakesPrefix};
-ghost use Rattle.outside.specs.Page.{Passes, next_cut, taken_of, after_write};
+ghost use Rattle.outside.specs.Page.{Passes, next_cut, page_state, taken_of, after_write};
 
 use crate::faults::Failed;
 use crate::sinks::Sink;
@@ -96,13 +96,11 @@ impl Page {
 }
 
 impl Sink for Page {
-    ghost written = { λ p. Some p.bytes };
-
-    ghost fault_count = { λ p. p.faults };
+    ghost state = { page_state };
 
     fn write(&mut self, bytes: &[u8]) -> Result<(), Failed>
-        ensures ok { OnOk result (Appends (Some self.old.bytes) (Some self.new.bytes) bytes.now) }
-        ensures err { OnErr result (TakesPrefix (Some self.old.bytes) (Some self.new.bytes) bytes.now) }
+        ensures ok { OnOk result (Appends (page_state self.old) (page_state self.new) bytes.now) }
+        ensures err { OnErr result (TakesPrefix (page_state self.old) (page_state self.new) bytes.now) }
         ensures cause { FailsOnlyWhereRose result self.old.faults self.new.faults }
         ensures later { self.old.faults ≤ self.new.faults }
 

@@ -1,9 +1,9 @@
 // A library in memory.
-ghost use Rattle.std.specs.Prelude.{◌≡◌, ◌+◌, ◌≤◌, length, map, take, find, Some, IfOk, IfErr};
+ghost use Rattle.std.specs.Prelude.{◌≡◌, ◌+◌, ◌≤◌, length, map, take, find, IfOk, IfErr};
 ghost use Rattle.std.specs.Option.{option_copied};
 ghost use Rattle.std.specs.Str.{bytes_eq};
-ghost use Rattle.outside.specs.Library.{Held, FetchCause};
-ghost use Rattle.outside.specs.Shelf.{file_of, files_of, answer, Answers, after_call};
+ghost use Rattle.outside.specs.Library.{FetchCause, Given, Held};
+ghost use Rattle.outside.specs.Shelf.{Answers, ShelfGave, after_call, answer, file_of, files_of, shelf_state};
 
 use crate::libraries::{Fetch, Library};
 use crate::texts::Text;
@@ -81,15 +81,18 @@ fn front_of(alloc: Global, bytes: &[u8], most: u64) -> Result<Vec<u8>, Fetch>
 }
 
 impl Library for Shelf {
-    ghost held = { λ s. Some (files_of s.files) };
+    ghost state = { shelf_state };
 
-    ghost fault_count = { λ s. s.faults };
+    ghost gave = { ShelfGave };
+
+    ghost tells = { λ old new name most answer given. given };
 
     fn read(&mut self, alloc: Global, name: &str, most: u64) -> Result<Vec<u8>, Fetch>
-        ensures bytes { IfOk result (λ bytes. Held (Some (files_of self.old.files)) name.now most bytes.items) }
+        ensures given { Given result (ShelfGave self.old self.new name.now most) }
+        ensures bytes { IfOk result (λ bytes. Held (shelf_state self.old).held name.now most bytes.items) }
         ensures at_most { IfOk result (λ bytes. length bytes.items ≤ most + 1) }
-        ensures cause { IfErr result (FetchCause (Some (files_of self.old.files)) name.now self.old.faults self.new.faults) }
-        ensures same { files_of self.new.files ≡ files_of self.old.files }
+        ensures cause { IfErr result (FetchCause name.now (shelf_state self.old) (shelf_state self.new)) }
+        ensures same { (shelf_state self.new).held ≡ (shelf_state self.old).held }
         ensures later { self.old.faults ≤ self.new.faults }
 
         // Exactly which answer, and what the call leaves.

@@ -1,5 +1,5 @@
 -- Bytes that are handed to a sink in parts are handed to it whole.
-use Rattle.std.proofs.Common.{◌≡◌, ℕ, ◌+◌, List, ◌++◌, Option, None, Some, length, refl, sym, ap, ◌∙◌, append_assoc}
+use Rattle.std.proofs.Common.{◌≡◌, ℕ, ◌+◌, List, [], ◌++◌, Option, None, Some, length, refl, sym, ap, ◌∙◌, append_assoc, append-nil}
 use Rattle.std.proofs.Math.Seq.{take-append-add}
 use Rattle.std.specs.Io.KnownBytes.{append_known}
 use Rattle.outside.specs.Sink.{Appends, SinkState, TakesPrefix}
@@ -26,3 +26,11 @@ TakesPrefix-append {front} {rest} first second = record {
   count = length front + second.count;
   taken = Appends-same (take-append-add front rest second.count) (Appends-append first second.taken);
 }
+
+append_known-nil : (known : Option (List ℕ)) → known ≡ append_known known []
+append_known-nil None = refl
+append_known-nil (Some bytes) = ap Some (sym (append-nil bytes))
+
+-- no bytes leave a sink as it is
+pub Appends-nil : (state : SinkState) → Appends state state []
+Appends-nil state = record { appended = append_known-nil state.written }

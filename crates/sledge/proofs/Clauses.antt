@@ -1,159 +1,122 @@
--- Each clause of `run` follows from its one ending.
-use Rattle.std.proofs.Common.{◌≡◌, ◌≢◌, ℕ, ◌≤◌, ◌⊎◌, inl, inr, Bool, true, false, nat_lt, List, ◌++◌, length, codes, decimal, Option, None, Some, IfSome, refl, sym, ap, subst, ◌∙◌, arith}
-use Rattle.std.proofs.lemmas.Bool.Decides.{nat_tests}
-use Rattle.std.specs.Bool.{MatchBool}
-use Rattle.outside.specs.Library.{Files}
-use Rattle.outside.specs.Sink.{Appends}
-use Rattle.wasm_ops.specs.declared.operators.Op.{Op}
-use Rattle.sledge.specs.BuiltModule.{IsBuilt}
-use Rattle.sledge.specs.CommandLine.{Asked, AsksHelp, AsksVersion, AsksInvoke, InvokeWords}
-use Rattle.sledge.specs.Delivery.{Leaves, Wrote}
-use Rattle.sledge.specs.Endings.{Ended, EndsAs, EndsCommand, EndsFromModule, EndsFromBody, EndsRun, Reads, reads_of, answered, body_limit, module_fault, not_read, out_of_memory, read_order, recording_fault, refusal, usage}
-use Rattle.sledge.specs.Execution.{execution_of}
-use Rattle.sledge.specs.Promises.{AnswersInvoke, Refused}
-use Rattle.sledge.specs.declared.machine.Execution.{Execution}
+-- Each clause of `run` follows from its one ending, whatever the command.
+use Rattle.std.proofs.Common.{◌≡◌, ◌≢◌, ◌⊎◌, inl, inr, ℕ, List, Option, None, Some, IfSome, IsSomeAnd, refl, sym, ap, subst, ◌∙◌}
+use Rattle.outside.specs.Faults.{Rose}
+use Rattle.outside.specs.Library.{Files, LibraryState}
+use Rattle.outside.specs.Sink.{SinkState}
+use Rattle.sledge.proofs.Checks.{plan_steady}
+use Rattle.sledge.proofs.Walking.{Failed, Giving, IsOfFiles, Lawful, walk_of_files, walk_over, walk_untold}
+use Rattle.sledge.specs.CommandLine.{Asked}
+use Rattle.sledge.specs.Commands.{plan_of}
+use Rattle.sledge.specs.Delivery.{Leaves, Took, WroteInPart}
+use Rattle.sledge.specs.Endings.{Done, Ended, Refuses, note_of, out_of_memory, status_of, text_of}
+use Rattle.sledge.specs.Plans.{Walks, over}
+use Rattle.sledge.specs.Promises.{Refused, WriteRose, Yields}
 use Rattle.sledge.specs.declared.status.Status.{Status}
 use Rattle.sledge.specs.declared.status.Status.TheVariants as status
 
--- the shapes of an ending: it is done, or a refusal of one of these kinds
-data Kind (e : Ended) : Type 0 where
-  Done : (done : e.status ≡ status.Ok) → Kind e
-  Unread : (name : List ℕ) (unread : e ≡ not_read name) → Kind e
-  BadModule : (route number place : ℕ) (bad : e ≡ module_fault route number place) → Kind e
-  BadBody : (number : ℕ) (bad : e ≡ recording_fault number) → Kind e
-  NoShape : (bad : e ≡ usage) → Kind e
-  NoRoom : (bad : e ≡ out_of_memory) → Kind e
-
-body_kind : (b : Bool) (ops : List Op) (budget : ℕ) (e : Ended) → MatchBool b (e ≡ recording_fault 76) (EndsRun ops budget e) → Kind e
-body_kind true ops budget e d = BadBody 76 d
-body_kind false ops budget e d = Done (ap (λ (x : Ended). x.status) d.2)
-
-from_body_kind : (ops : List Op) (words : InvokeWords) (body : Option (List ℕ)) (e : Ended) → EndsFromBody ops words body e → Kind e
-from_body_kind ops words None e d = Unread words.body_name d
-from_body_kind ops words (Some body) e d = body_kind (nat_lt body_limit (length body)) ops words.budget e d
-
-from_module_kind : (words : InvokeWords) (file body : Option (List ℕ)) (e : Ended) → EndsFromModule words file body e → Kind e
-from_module_kind words None body e d = Unread words.module_name d
-from_module_kind words (Some file) body e (inl d) = BadModule 0 d.0.number d.0.place d.2
-from_module_kind words (Some file) body e (inr (inl d)) = BadModule 0 90 0 d.1
-from_module_kind words (Some file) body e (inr (inr d)) = from_body_kind d.0 words body e d.2
-
-command_kind : (asked : Option Asked) (reads : Reads) (e : Ended) → EndsCommand asked reads e → Kind e
-command_kind None reads e d = NoShape d
-command_kind (Some AsksHelp) reads e d = Done (ap (λ (x : Ended). x.status) d)
-command_kind (Some AsksVersion) reads e d = Done (ap (λ (x : Ended). x.status) d)
-command_kind (Some (AsksInvoke words)) reads e d = from_module_kind words (reads 0 words.module_name) (reads 1 words.body_name) e d
-
-ending_kind : (held : Option Files) (asked : Option Asked) (before now : ℕ) (e : Ended) → EndsAs held (EndsCommand asked) (read_order asked) before now e ⊎ (e ≡ out_of_memory) → Kind e
-ending_kind None asked before now e (inl (inl f)) = Unread f.name f.ends
-ending_kind None asked before now e (inl (inr d)) = command_kind asked d.reads e d.ends
-ending_kind (Some files) asked before now e (inl (inl f)) = Unread f.name f.ends
-ending_kind (Some files) asked before now e (inl (inr d)) = command_kind asked (reads_of files) e d
-ending_kind held asked before now e (inr m) = NoRoom m
+-- the reads came to this ending, or there was no memory
+abbrev pub Reached : {L : Type 0} → (L → LibraryState) → Giving L → Option Asked → (old new : L) → Ended → Type 0
+Reached state gave asked old new e = Walks state gave (plan_of asked) old new e ⊎ (e ≡ out_of_memory)
 
 -- a refusal leaves one line on the notes, and nothing on the output
-refusal_leaves : (s : Status) (words : List ℕ) (e : Ended) (out out' notes notes' : Option (List ℕ)) → e ≡ refusal s words → Wrote e.text e.note out out' notes notes' → Refused out out' notes notes'
-refusal_leaves s words e out out' notes notes' r w = record {
-  out_took = subst (λ (x : Ended). Appends out out' x.text) r w.out_took;
-  words = words;
-  notes_took = subst (λ (x : Ended). Appends notes notes' x.note) r w.notes_took;
-}
-
-kind_refused : (e : Ended) (result : Status) (out out' notes notes' : Option (List ℕ)) → Kind e → result ≢ status.Ok → result ≡ e.status → Wrote e.text e.note out out' notes notes' → Refused out out' notes notes'
-kind_refused e result out out' notes notes' (Done done) other s w = absurd (other (s ∙ done))
-kind_refused e result out out' notes notes' (Unread name r) other s w = refusal_leaves status.ReadFault (codes "read " ++ name) e out out' notes notes' r w
-kind_refused e result out out' notes notes' (BadModule route number place r) other s w =
-    refusal_leaves (status.ModuleFault route number place) (codes "module " ++ decimal number ++ codes " " ++ decimal route ++ codes " " ++ decimal place) e out out' notes notes' r w
-kind_refused e result out out' notes notes' (BadBody number r) other s w = refusal_leaves (status.RecordingFault number) (codes "recording " ++ decimal number) e out out' notes notes' r w
-kind_refused e result out out' notes notes' (NoShape r) other s w = refusal_leaves status.Usage (codes "usage") e out out' notes notes' r w
-kind_refused e result out out' notes notes' (NoRoom r) other s w = refusal_leaves status.NoMemory (codes "memory") e out out' notes notes' r w
-
-pub leaves_refused
-    : (held : Option Files) (asked : Option Asked) (before now : ℕ) (e : Ended) (result : Status) (out out' : Option (List ℕ)) (outs outs' : ℕ) (notes notes' : Option (List ℕ)) (counts counts' : ℕ)
-    → EndsAs held (EndsCommand asked) (read_order asked) before now e ⊎ (e ≡ out_of_memory) → Leaves e result out out' outs outs' notes notes' counts counts'
+pub leaves_refused : (e : Ended) (result : Status) (out out' notes notes' : SinkState) → Leaves e result out out' notes notes'
     → result ≢ status.Ok → result ≢ status.WriteFault → Refused out out' notes notes'
-leaves_refused held asked before now e result out out' outs outs' notes notes' counts counts' d (inl (s, w)) other whole = kind_refused e result out out' notes notes' (ending_kind held asked before now e d) other s w
-leaves_refused held asked before now e result out out' outs outs' notes notes' counts counts' d (inr (s, w)) other whole = absurd (whole s)
+leaves_refused (Done text note) result out out' notes notes' (inl (s, w)) other whole = absurd (other s)
+leaves_refused (Refuses s words) result out out' notes notes' (inl (same, w)) other whole =
+    record { out_took = w.out_took; words = words; notes_took = w.notes_took }
+leaves_refused e result out out' notes notes' (inr (s, w)) other whole = absurd (whole s)
 
--- an `invoke` that is done was answered
+broke_rose : (text note : List ℕ) (out out' notes notes' : SinkState) → WroteInPart text note out out' notes notes' → WriteRose out out' notes notes'
+broke_rose text note out out' notes notes' (inl t) = inl t.out_rose
+broke_rose text note out out' notes notes' (inr t) = inr t.notes_rose
 
-not_done : (s : Status) (words : List ℕ) (e : Ended) → s ≢ status.Ok → e ≡ refusal s words → e.status ≡ status.Ok → ⊥
-not_done s words e other r done = other (sym (ap (λ (x : Ended). x.status) r) ∙ done)
+-- the ending over a library's files, for words of a shape and for others
+ends_over : {L : Type 0} (state : L → LibraryState) (gave : Giving L) → Lawful state gave → (files : Files) (asked : Option Asked) (old new : L) (e : Ended)
+    → (state old).held ≡ Some files → Walks state gave (plan_of asked) old new e → (e ≡ over files (plan_of asked)) ⊎ Failed e (state old) (state new)
+ends_over state gave tells files None old new e holds walk = inl walk.0
+ends_over state gave tells files (Some asked) old new e holds walk = walk_over state gave tells files (plan_of (Some asked)) old new e (plan_steady asked) holds walk
 
--- what is due on an answer
-record IsAnswer (words : InvokeWords) (files : Files) (e : Ended) : Type 0 where
-  pub file : List ℕ
-  pub ops : List Op
-  pub body : List ℕ
-  pub run : Execution
-  pub holds_module : files words.module_name ≡ Some file
-  pub built : IsBuilt file ops
-  pub holds_body : files words.body_name ≡ Some body
-  pub fits : length body ≤ body_limit
-  pub ran : execution_of ops words.budget ≡ Some run
-  pub due : e ≡ answered run
+-- no ending has the status of a write that failed
+never_write_fault : {L : Type 0} (state : L → LibraryState) (gave : Giving L) (asked : Option Asked) (old new : L) (e : Ended) → Reached state gave asked old new e → status_of e ≢ status.WriteFault
+never_write_fault state gave None old new e (inl walk) = λ is. let same = ap status_of walk.0 in cc
+never_write_fault state gave (Some asked) old new e (inl walk) =
+    λ is. elim (walk_of_files state gave (plan_of (Some asked)) old new e (plan_steady asked) walk) [
+      | inl own ↦ absurd (subst IsOfFiles is own)
+      | inr read ↦ cc
+    ]
+never_write_fault state gave asked old new e (inr m) = λ is. let same = ap status_of m in cc
 
-fits_limit : (n : ℕ) → nat_lt body_limit n ≡ false → n ≤ body_limit
-fits_limit n e = grind (arith, nat_tests)
+yields : {L : Type 0} (state : L → LibraryState) (gave : Giving L) → Lawful state gave → (files : Files) (asked : Option Asked) (old new : L) (e : Ended) (result : Status) (out out' notes notes' : SinkState)
+    → (state old).held ≡ Some files → Reached state gave asked old new e → Leaves e result out out' notes notes'
+    → Yields (status_of (over files (plan_of asked))) result (state old) (state new) out out' notes notes'
+yields state gave tells files asked old new e result out out' notes notes' holds reached (inr (s, w)) =
+    inr (inr (inl (s, broke_rose (text_of e) (note_of e) out out' notes notes' w)))
+yields state gave tells files asked old new e result out out' notes notes' holds (inr m) (inl (s, w)) = inr (inl (s ∙ ap status_of m))
+yields state gave tells files asked old new e result out out' notes notes' holds (inl walk) (inl (s, w)) =
+    elim (ends_over state gave tells files asked old new e holds walk) [
+      | inl same ↦ inl (s ∙ ap status_of same)
+      | inr failed ↦ inr (inr (inr (s ∙ failed.0, failed.1)))
+    ]
 
-body_answer : (words : InvokeWords) (files : Files) (file : List ℕ) (ops : List Op) (body : List ℕ) (e : Ended) → files words.module_name ≡ Some file → IsBuilt file ops → files words.body_name ≡ Some body
-    → (b : Bool) → nat_lt body_limit (length body) ≡ b → MatchBool b (e ≡ recording_fault 76) (EndsRun ops words.budget e) → e.status ≡ status.Ok → IsAnswer words files e
-body_answer words files file ops body e m b h true long d done = absurd (not_done (status.RecordingFault 76) (codes "recording " ++ decimal 76) e (λ bad. cc) d done)
-body_answer words files file ops body e m b h false fits d done = record {
-  file = file;
-  ops = ops;
-  body = body;
-  run = d.0;
-  holds_module = m;
-  built = b;
-  holds_body = h;
-  fits = fits_limit (length body) fits;
-  ran = d.1;
-  due = d.2;
-}
+took : {L : Type 0} (state : L → LibraryState) (gave : Giving L) → Lawful state gave → (files : Files) (asked : Option Asked) (old new : L) (e : Ended) (result : Status) (out out' notes notes' : SinkState)
+    → (state old).held ≡ Some files → Reached state gave asked old new e → Leaves e result out out' notes notes'
+    → result ≡ status.Ok → Took (over files (plan_of asked)) out out' notes notes'
+took state gave tells files asked old new e result out out' notes notes' holds reached (inr (s, w)) done = cc
+took state gave tells files asked old new e result out out' notes notes' holds (inr m) (inl (s, w)) done = let same = s ∙ ap status_of m in cc
+took state gave tells files asked old new e result out out' notes notes' holds (inl walk) (inl (s, w)) done =
+    elim (ends_over state gave tells files asked old new e holds walk) [
+      | inl same ↦ subst (λ x. Took x out out' notes notes') same w
+      | inr failed ↦ let same = s ∙ failed.0 in cc
+    ]
 
-from_body_answer : (words : InvokeWords) (files : Files) (file : List ℕ) (ops : List Op) (body : Option (List ℕ)) (e : Ended) → files words.module_name ≡ Some file → IsBuilt file ops → files words.body_name ≡ body
-    → EndsFromBody ops words body e → e.status ≡ status.Ok → IsAnswer words files e
-from_body_answer words files file ops None e m b h d done = absurd (not_done status.ReadFault (codes "read " ++ words.body_name) e (λ bad. cc) d done)
-from_body_answer words files file ops (Some body) e m b h d done = body_answer words files file ops body e m b h (nat_lt body_limit (length body)) refl d done
+-- The clauses.
 
-from_module_answer : (words : InvokeWords) (files : Files) (file : Option (List ℕ)) (e : Ended) → files words.module_name ≡ file → EndsFromModule words file (files words.body_name) e → e.status ≡ status.Ok → IsAnswer words files e
-from_module_answer words files None e m d done = absurd (not_done status.ReadFault (codes "read " ++ words.module_name) e (λ bad. cc) d done)
-from_module_answer words files (Some file) e m (inl d) done =
-    absurd (not_done (status.ModuleFault 0 d.0.number d.0.place) (codes "module " ++ decimal d.0.number ++ codes " " ++ decimal 0 ++ codes " " ++ decimal d.0.place) e (λ bad. cc) d.2 done)
-from_module_answer words files (Some file) e m (inr (inl d)) done =
-    absurd (not_done (status.ModuleFault 0 90 0) (codes "module " ++ decimal 90 ++ codes " " ++ decimal 0 ++ codes " " ++ decimal 0) e (λ bad. cc) d.1 done)
-from_module_answer words files (Some file) e m (inr (inr d)) done = from_body_answer words files file d.0 (files words.body_name) e m d.1 refl d.2 done
+pub leaves_exactly : {L : Type 0} (state : L → LibraryState) (gave : Giving L) → Lawful state gave → (held : Option Files) (asked : Option Asked) (old new : L) (e : Ended) (result : Status) (out out' notes notes' : SinkState)
+    → (state old).held ≡ held → Reached state gave asked old new e → Leaves e result out out' notes notes'
+    → IfSome held (λ files. Yields (status_of (over files (plan_of asked))) result (state old) (state new) out out' notes notes')
+leaves_exactly state gave tells None asked old new e result out out' notes notes' holds reached leaves = tt
+leaves_exactly state gave tells (Some files) asked old new e result out out' notes notes' holds reached leaves =
+    yields state gave tells files asked old new e result out out' notes notes' holds reached leaves
 
-answer_leaves : (words : InvokeWords) (files : Files) (e : Ended) (out out' notes notes' : Option (List ℕ)) → IsAnswer words files e → Wrote e.text e.note out out' notes notes' → AnswersInvoke words files out out' notes notes'
-answer_leaves words files e out out' notes notes' a w = record {
-  file = a.file;
-  ops = a.ops;
-  body = a.body;
-  run = a.run;
-  holds_module = a.holds_module;
-  built = a.built;
-  holds_body = a.holds_body;
-  fits = a.fits;
-  ran = a.ran;
-  out_took = subst (λ (x : Ended). Appends out out' x.text) a.due w.out_took;
-  notes_took = subst (λ (x : Ended). Appends notes notes' x.note) a.due w.notes_took;
-}
+pub leaves_done : {L : Type 0} (state : L → LibraryState) (gave : Giving L) → Lawful state gave → (held : Option Files) (asked : Option Asked) (old new : L) (e : Ended) (result : Status) (out out' notes notes' : SinkState)
+    → (state old).held ≡ held → Reached state gave asked old new e → Leaves e result out out' notes notes'
+    → result ≡ status.Ok → IfSome held (λ files. Took (over files (plan_of asked)) out out' notes notes')
+leaves_done state gave tells None asked old new e result out out' notes notes' holds reached leaves done = tt
+leaves_done state gave tells (Some files) asked old new e result out out' notes notes' holds reached leaves done =
+    took state gave tells files asked old new e result out out' notes notes' holds reached leaves done
 
-done_leaves : (words : InvokeWords) (held : Option Files) (before now : ℕ) (e : Ended) (out out' notes notes' : Option (List ℕ))
-    → EndsAs held (EndsCommand (Some (AsksInvoke words))) (read_order (Some (AsksInvoke words))) before now e ⊎ (e ≡ out_of_memory) → e.status ≡ status.Ok → Wrote e.text e.note out out' notes notes'
-    → IfSome held (λ files. AnswersInvoke words files out out' notes notes')
-done_leaves words None before now e out out' notes notes' d done w = tt
-done_leaves words (Some files) before now e out out' notes notes' (inl (inl f)) done w = absurd (not_done status.ReadFault (codes "read " ++ f.name) e (λ bad. cc) f.ends done)
-done_leaves words (Some files) before now e out out' notes notes' (inl (inr d)) done w =
-    answer_leaves words files e out out' notes notes' (from_module_answer words files (files words.module_name) e refl d done) w
-done_leaves words (Some files) before now e out out' notes notes' (inr m) done w = absurd (not_done status.NoMemory (codes "memory") e (λ bad. cc) m done)
+pub leaves_usage : {L : Type 0} (state : L → LibraryState) (gave : Giving L) (asked : Option Asked) (old new : L) (e : Ended) (result : Status) (out out' notes notes' : SinkState)
+    → Reached state gave asked old new e → Leaves e result out out' notes notes' → result ≡ status.Usage → asked ≡ None
+leaves_usage state gave None old new e result out out' notes notes' reached leaves is = refl
+leaves_usage state gave (Some asked) old new e result out out' notes notes' reached (inr (s, w)) is = cc
+leaves_usage state gave (Some asked) old new e result out out' notes notes' (inr m) (inl (s, w)) is = let same = s ∙ ap status_of m in cc
+leaves_usage state gave (Some asked) old new e result out out' notes notes' (inl walk) (inl (s, w)) is =
+    elim (walk_of_files state gave (plan_of (Some asked)) old new e (plan_steady asked) walk) [
+      | inl own ↦ absurd (subst IsOfFiles (sym s ∙ is) own)
+      | inr read ↦ let same = s ∙ read in cc
+    ]
 
-pub leaves_answered
-    : (held : Option Files) (asked : Option Asked) (before now : ℕ) (e : Ended) (result : Status) (out out' : Option (List ℕ)) (outs outs' : ℕ) (notes notes' : Option (List ℕ)) (counts counts' : ℕ)
-    → EndsAs held (EndsCommand asked) (read_order asked) before now e ⊎ (e ≡ out_of_memory) → Leaves e result out out' outs outs' notes notes' counts counts'
-    → (words : InvokeWords) → asked ≡ Some (AsksInvoke words) → result ≡ status.Ok → IfSome held (λ files. AnswersInvoke words files out out' notes notes')
-leaves_answered held asked before now e result out out' outs outs' notes notes' counts counts' d (inl (s, w)) words is done =
-    let P : Option Asked → Type 0 = λ a. EndsAs held (EndsCommand a) (read_order a) before now e ⊎ (e ≡ out_of_memory) in
-    done_leaves words held before now e out out' notes notes' (subst P is d) (sym s ∙ done) w
-leaves_answered held asked before now e result out out' outs outs' notes notes' counts counts' d (inr (s, w)) words is done = cc
+read_at : {L : Type 0} (state : L → LibraryState) (gave : Giving L) → Lawful state gave → (held : Option Files) (asked : Option Asked) (old new : L) (e : Ended)
+    → (state old).held ≡ held → Walks state gave (plan_of asked) old new e → status_of e ≡ status.ReadFault
+    → Rose (state old).faults (state new).faults ⊎ IsSomeAnd held (λ files. status_of (over files (plan_of asked)) ≡ status.ReadFault)
+read_at state gave tells held None old new e holds walk is = let same = ap status_of walk.0 in cc
+read_at state gave tells None (Some asked) old new e holds walk is =
+    inl (walk_untold state gave tells (plan_of (Some asked)) old new e (plan_steady asked) holds walk is)
+read_at state gave tells (Some files) (Some asked) old new e holds walk is =
+    elim (walk_over state gave tells files (plan_of (Some asked)) old new e (plan_steady asked) holds walk) [
+      | inl same ↦ inr (sym (ap status_of same) ∙ is)
+      | inr failed ↦ inl failed.1
+    ]
+
+pub leaves_read_fault : {L : Type 0} (state : L → LibraryState) (gave : Giving L) → Lawful state gave → (asked : Option Asked) (old new : L) (e : Ended) (result : Status) (out out' notes notes' : SinkState)
+    → Reached state gave asked old new e → Leaves e result out out' notes notes' → result ≡ status.ReadFault
+    → Rose (state old).faults (state new).faults ⊎ IsSomeAnd (state old).held (λ files. status_of (over files (plan_of asked)) ≡ status.ReadFault)
+leaves_read_fault state gave tells asked old new e result out out' notes notes' reached (inr (s, w)) is = cc
+leaves_read_fault state gave tells asked old new e result out out' notes notes' (inr m) (inl (s, w)) is = let same = s ∙ ap status_of m in cc
+leaves_read_fault state gave tells asked old new e result out out' notes notes' (inl walk) (inl (s, w)) is =
+    read_at state gave tells (state old).held asked old new e refl walk (sym s ∙ is)
+
+pub leaves_write_fault : {L : Type 0} (state : L → LibraryState) (gave : Giving L) (asked : Option Asked) (old new : L) (e : Ended) (result : Status) (out out' notes notes' : SinkState)
+    → Reached state gave asked old new e → Leaves e result out out' notes notes' → result ≡ status.WriteFault → WriteRose out out' notes notes'
+leaves_write_fault state gave asked old new e result out out' notes notes' reached (inr (s, w)) is = broke_rose (text_of e) (note_of e) out out' notes notes' w
+leaves_write_fault state gave asked old new e result out out' notes notes' reached (inl (s, w)) is = absurd (never_write_fault state gave asked old new e reached (sym s ∙ is))

@@ -1,9 +1,9 @@
+pub mod Built
+pub mod Checks
 pub mod Clauses
-pub mod CutFiles
 pub mod Decimals
-pub mod Exactly
-pub mod ModuleEndings
 pub mod Pieces
 pub mod Runs
 pub mod Safety
 pub mod Stacks
+pub mod Walking

@@ -9,8 +9,6 @@ use Rattle.wasm_ops.specs.declared.traps.Trap.{Trap}
 use Rattle.wasm_ops.specs.declared.traps.Trap.TheVariants as trap
 use Rattle.wasm_ops.specs.declared.types.ValType.{ValType}
 use Rattle.wasm_ops.specs.declared.types.ValType.TheVariants.{I32, I64}
-use Rattle.sledge.specs.declared.machine.Verdict.TheVariants as verdict
-use Rattle.sledge.specs.declared.machine.Execution.{Execution}
 
 -- an operand: a number with its type
 pub data Value : Type 0 where
@@ -104,11 +102,23 @@ run (op ∷ ops) operands left =
     if nat_lt left (price op) then paid 0 (ends Spent operands left)
     else act (effect op operands) (price op) operands left (run ops)
 
--- what became of the request, with the units that it cost
+-- what became of the request: the function came to its end and replies with these bytes,
+-- or a trap stopped it, or its budget was spent before its end
+pub data Verdict : Type 0 where
+  Replies : (bytes : List ℕ) → Verdict
+  TrapsWith : (why : Trap) → Verdict
+  RunsOut : Verdict
+
+-- a verdict with its cost
+pub record Execution : Type 0 where
+  pub verdict : Verdict
+  pub units : ℕ
+
+-- what a run comes to that cost so many units; no operator that is built writes a reply, so it is empty
 abbrev pub concluded : Outcome → (units : ℕ) → Option Execution
-concluded Fell units = Some (record { verdict = verdict.Replied; units = units })
-concluded (Trapped why) units = Some (record { verdict = verdict.Trap why; units = units })
-concluded Spent units = Some (record { verdict = verdict.Spent; units = units })
+concluded Fell units = Some (record { verdict = Replies []; units = units })
+concluded (Trapped why) units = Some (record { verdict = TrapsWith why; units = units })
+concluded Spent units = Some (record { verdict = RunsOut; units = units })
 concluded Stuck units = None
 
 -- the verdict on the operators within the budget, or none where they get stuck

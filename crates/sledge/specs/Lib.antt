@@ -1,10 +1,13 @@
 pub mod BuiltModule
 pub mod CommandLine
+pub mod Commands
 pub mod Delivery
 pub mod Endings
 pub mod Execution
 pub mod Heights
 pub mod Machine
+pub mod Plans
 pub mod Promises
 pub mod Statuses
+pub mod Texts
 pub mod Typing

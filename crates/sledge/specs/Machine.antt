@@ -1,10 +1,13 @@
 -- What a machine's stack of numbers stands for, and what one operator does to it.
-use Rattle.std.specs.Prelude.{◌≡◌, ℕ, List, length, reverse, map, replicate, Option, Some, None, false}
+use Rattle.std.specs.Prelude.{◌≡◌, ℕ, List, [], length, reverse, map, replicate, Option, Some, None, false}
 use Rattle.wasm_ops.specs.declared.operators.Op.{Op}
 use Rattle.wasm_ops.specs.declared.traps.Trap.{Trap}
 use Rattle.wasm_ops.specs.declared.types.ValType.TheVariants.{I32}
-use Rattle.sledge.specs.Execution.{Value, Int32, Goes, Traps, effect}
+use Rattle.sledge.specs.Execution.{Execution, Goes, Int32, Replies, RunsOut, Traps, TrapsWith, Value, Verdict, effect}
 use Rattle.sledge.specs.Typing.{OperandTypes, typed_operator}
+use Rattle.sledge.specs.declared.machine.Execution.{Execution as Executed}
+use Rattle.sledge.specs.declared.machine.Verdict.{Verdict as Found}
+use Rattle.sledge.specs.declared.machine.Verdict.TheVariants as verdict
 
 -- the operands that the stack stands for, the last one first
 abbrev pub values_of : List ℕ → List Value
@@ -23,3 +26,12 @@ abbrev pub Acts : Op → (before after : List ℕ) → Option Trap → Type 0
 Acts op before after None =
     (effect op (values_of before) ≡ Goes (values_of after)) × (typed_operator op (operands (length before)) ≡ Some (operands (length after)))
 Acts op before after (Some why) = effect op (values_of before) ≡ Traps why
+
+-- the machine's verdict and cost, as the definitions have them
+abbrev pub verdict_view : Found → Verdict
+verdict_view verdict.Replied = Replies []
+verdict_view (verdict.Trap why) = TrapsWith why
+verdict_view verdict.Spent = RunsOut
+
+abbrev pub execution_view : Executed → Execution
+execution_view run = record { verdict = verdict_view run.verdict; units = run.units }

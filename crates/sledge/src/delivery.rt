@@ -17,10 +17,10 @@ pub fn deliver<S: Sink, N: Sink>(
     out: &mut S,
     notes: &mut N,
 ) -> Result<(), Failed>
-    ensures all { OnOk result (Wrote text.now note.now (S.written out.old) (S.written out.new) (N.written notes.old) (N.written notes.new)) }
+    ensures all { OnOk result (Wrote text.now note.now
+        (S.state out.old) (S.state out.new) (N.state notes.old) (N.state notes.new)) }
     ensures part { OnErr result (WroteInPart text.now note.now
-        (S.written out.old) (S.written out.new) (S.fault_count out.old) (S.fault_count out.new)
-        (N.written notes.old) (N.written notes.new) (N.fault_count notes.old) (N.fault_count notes.new)) }
+        (S.state out.old) (S.state out.new) (N.state notes.old) (N.state notes.new)) }
 {
     write_pieces(text, out)?;
     write_pieces(note, notes)
@@ -28,10 +28,10 @@ pub fn deliver<S: Sink, N: Sink>(
 
 /// Writes the bytes in pieces of `PIECE` bytes and a last shorter one. No bytes are no call.
 fn write_pieces<S: Sink>(bytes: &[u8], sink: &mut S) -> Result<(), Failed>
-    ensures all { OnOk result (Appends (S.written sink.old) (S.written sink.new) bytes.now) }
-    ensures some { OnErr result (TakesPrefix (S.written sink.old) (S.written sink.new) bytes.now) }
-    ensures cause { OnErr result (Rose (S.fault_count sink.old) (S.fault_count sink.new)) }
-    ensures later { S.fault_count sink.old ≤ S.fault_count sink.new }
+    ensures all { OnOk result (Appends (S.state sink.old) (S.state sink.new) bytes.now) }
+    ensures some { OnErr result (TakesPrefix (S.state sink.old) (S.state sink.new) bytes.now) }
+    ensures cause { OnErr result (Rose (S.state sink.old).faults (S.state sink.new).faults) }
+    ensures later { (S.state sink.old).faults ≤ (S.state sink.new).faults }
 {
     let mut rest = bytes;
     'pieces: while !rest.is_empty() {

@@ -1,7 +1,8 @@
 //! How a command ends: its status, the text for the output and the line for the notes.
 
 ghost use Rattle.std.specs.Prelude.{◌≡◌, IfOk};
-ghost use Rattle.sledge.specs.Endings.{usage, not_read, module_fault, recording_fault, shown, answered, reported_verdict};
+ghost use Rattle.sledge.specs.Endings.{answered, due, module_fault, not_read, recording_fault, reported_verdict, shown, usage};
+ghost use Rattle.sledge.specs.Machine.{execution_view, verdict_view};
 ghost use Rattle.http_front.specs.Reported.{reported};
 
 use crate::machine::{Execution, Verdict};
@@ -21,9 +22,9 @@ pub struct Ending {
 
 impl Model for Ending {
     ghost use Rattle.std.specs.Prelude.{string_bytes};
-    ghost use Rattle.sledge.specs.Endings.{Ended};
+    ghost use Rattle.sledge.specs.Endings.{Due};
 
-    ghost Value = { Ended };
+    ghost Value = { Due };
 
     ghost view = { λ e. record { status = e.status; text = e.text.items; note = string_bytes e.note } };
 }
@@ -52,7 +53,7 @@ impl Ending {
 
     /// The words have none of the shapes of a command.
     pub fn usage(alloc: Global) -> Result<Ending, AllocError>
-        ensures { IfOk result (λ e. e ≡ usage) }
+        ensures { IfOk result (λ e. e ≡ due usage) }
     {
         Ok(Ending {
             status: Status::Usage,
@@ -63,7 +64,7 @@ impl Ending {
 
     /// The file of this name cannot be read.
     pub fn not_read(alloc: Global, name: &str) -> Result<Ending, AllocError>
-        ensures { IfOk result (λ e. e ≡ not_read name.now) }
+        ensures { IfOk result (λ e. e ≡ due (not_read name.now)) }
     {
         Ok(Ending {
             status: Status::ReadFault,
@@ -79,7 +80,7 @@ impl Ending {
         number: u8,
         place: u32,
     ) -> Result<Ending, AllocError>
-        ensures { IfOk result (λ e. e ≡ module_fault route number place) }
+        ensures { IfOk result (λ e. e ≡ due (module_fault route number place)) }
     {
         Ok(Ending {
             status: Status::ModuleFault {
@@ -94,7 +95,7 @@ impl Ending {
 
     /// The recording, or the body of an `invoke`, is refused.
     pub fn recording_fault(alloc: Global, number: u8) -> Result<Ending, AllocError>
-        ensures { IfOk result (λ e. e ≡ recording_fault number) }
+        ensures { IfOk result (λ e. e ≡ due (recording_fault number)) }
     {
         Ok(Ending {
             status: Status::RecordingFault(number),
@@ -105,7 +106,7 @@ impl Ending {
 
     /// A text is shown.
     pub fn shown(alloc: Global, text: &str) -> Result<Ending, AllocError>
-        ensures { IfOk result (λ e. e ≡ shown text.now) }
+        ensures { IfOk result (λ e. e ≡ due (shown text.now)) }
     {
         Ok(Ending {
             status: Status::Ok,
@@ -116,7 +117,7 @@ impl Ending {
 
     /// The module ran: the reply to a kept GET, and what the run cost.
     pub fn answered(alloc: Global, run: Execution) -> Result<Ending, AllocError>
-        ensures { IfOk result (λ e. e ≡ answered run) }
+        ensures { IfOk result (λ e. e ≡ due (answered (execution_view run))) }
     {
         let units = run.units;
         Ok(Ending {
@@ -129,7 +130,7 @@ impl Ending {
 
 /// What the reply reports of a verdict.
 fn outcome_of(verdict: Verdict) -> Outcome<'static>
-    ensures { reported result ≡ reported_verdict verdict }
+    ensures { reported result ≡ reported_verdict (verdict_view verdict) }
 {
     match verdict {
         Verdict::Replied => Outcome::Bytes(&[]),

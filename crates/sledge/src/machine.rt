@@ -4,7 +4,7 @@ ghost use Rattle.std.specs.Prelude.{◌≡◌, ◌↔◌, ◌<◌, ◌≤◌, le
 ghost use Rattle.std.specs.List.{AllByRecursion};
 ghost use Rattle.sledge.specs.BuiltModule.{IsBuiltBinary, IsBuiltOperator};
 ghost use Rattle.sledge.specs.Execution.{execution_of};
-ghost use Rattle.sledge.specs.Machine.{Acts, Finds, values_of};
+ghost use Rattle.sledge.specs.Machine.{Acts, Finds, execution_view, values_of};
 ghost use Rattle.sledge.specs.Typing.{IsTyped};
 
 use std::alloc::{AllocError, Global};
@@ -34,7 +34,7 @@ pub struct Execution {
 pub fn execute(alloc: Global, ops: &[Op], budget: u64) -> Result<Execution, AllocError>
     requires built { AllByRecursion IsBuiltOperator ops.now }
     requires typed { IsTyped ops.now }
-    ensures { IfOk result (λ execution. execution_of ops.now budget ≡ Some execution) }
+    ensures { IfOk result (λ execution. execution_of ops.now budget ≡ Some (execution_view execution)) }
 {
     let mut stack = Vec::new(alloc);
     let mut left = budget;

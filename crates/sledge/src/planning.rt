@@ -3,8 +3,10 @@
 ghost use Rattle.std.specs.Prelude.{◌≡◌, ◌≤◌, map, Some, IfOk, string_bytes};
 ghost use Rattle.std.specs.List.{AllByRecursion};
 ghost use Rattle.sledge.specs.BuiltModule.{IsBuiltOperator};
-ghost use Rattle.sledge.specs.CommandLine.{command_of, invoke_view};
-ghost use Rattle.sledge.specs.Endings.{EndsAs, IsEnding, EndsInvoke, EndsFromModule, EndsFromBody, EndsOnBody, names_of, read_order};
+ghost use Rattle.sledge.specs.CommandLine.{invoke_view};
+ghost use Rattle.sledge.specs.Commands.{body_end, body_plan, check_body, check_module, invoke_plan, plan_for};
+ghost use Rattle.sledge.specs.Endings.{due};
+ghost use Rattle.sledge.specs.Plans.{Comes, go_on};
 ghost use Rattle.sledge.specs.Typing.{IsTyped};
 
 use crate::built_module::built_operators;
@@ -26,12 +28,12 @@ const NOT_BUILT: u8 = 90;
 /// The refusal of a body that is too long.
 const TOO_LONG: u8 = 76;
 
-/// The ending of a command line over the library's files. Nothing is written yet.
+/// The ending of a command line, by its plan and the reads that are made here. Nothing is written
+/// yet.
 pub fn plan<L: Library>(alloc: Global, words: &[String], lib: &mut L) -> Result<Ending, AllocError>
-    ensures ending { IfOk result (EndsAs (L.held lib.old) (IsEnding (map string_bytes words.now))
-        (read_order (command_of (map string_bytes words.now))) (L.fault_count lib.old) (L.fault_count lib.new)) }
-    ensures same { L.held lib.new ≡ L.held lib.old }
-    ensures later { L.fault_count lib.old ≤ L.fault_count lib.new }
+    ensures comes { IfOk result (Comes L.state L.gave (plan_for (map string_bytes words.now)) lib.old lib.new) }
+    ensures same { (L.state lib.new).held ≡ (L.state lib.old).held }
+    ensures later { (L.state lib.old).faults ≤ (L.state lib.new).faults }
 {
     match Command::parse(words) {
         None => Ending::usage(alloc),
@@ -47,10 +49,9 @@ fn from_module<L: Library>(
     invoke: Invoke<'_>,
     lib: &mut L,
 ) -> Result<Ending, AllocError>
-    ensures ending { IfOk result (EndsAs (L.held lib.old) (EndsInvoke (invoke_view invoke.entry))
-        (names_of (invoke_view invoke.entry)) (L.fault_count lib.old) (L.fault_count lib.new)) }
-    ensures same { L.held lib.new ≡ L.held lib.old }
-    ensures later { L.fault_count lib.old ≤ L.fault_count lib.new }
+    ensures comes { IfOk result (Comes L.state L.gave (invoke_plan (invoke_view invoke.entry)) lib.old lib.new) }
+    ensures same { (L.state lib.new).held ≡ (L.state lib.old).held }
+    ensures later { (L.state lib.old).faults ≤ (L.state lib.new).faults }
 {
     // One byte more is read of a longer file, by which its reader sees that it is too long.
     match lib.read(alloc, invoke.module_name, MOST_BYTES) {
@@ -68,10 +69,10 @@ fn from_bytes<L: Library>(
     invoke: Invoke<'_>,
     lib: &mut L,
 ) -> Result<Ending, AllocError>
-    ensures ending { IfOk result (EndsAs (L.held lib.old) (λ reads. EndsFromModule (invoke_view invoke.entry) (Some bytes.now) (reads 1 (invoke_view invoke.entry).body_name))
-        (names_of (invoke_view invoke.entry)) (L.fault_count lib.old) (L.fault_count lib.new)) }
-    ensures same { L.held lib.new ≡ L.held lib.old }
-    ensures later { L.fault_count lib.old ≤ L.fault_count lib.new }
+    ensures comes { IfOk result (Comes L.state L.gave
+        (go_on (body_plan (invoke_view invoke.entry)) (check_module bytes.now)) lib.old lib.new) }
+    ensures same { (L.state lib.new).held ≡ (L.state lib.old).held }
+    ensures later { (L.state lib.old).faults ≤ (L.state lib.new).faults }
 {
     match read_module(alloc, bytes) {
         Ok(module) => match built_operators(&module) {
@@ -92,10 +93,9 @@ fn from_body<L: Library>(
 ) -> Result<Ending, AllocError>
     requires built { AllByRecursion IsBuiltOperator ops.now }
     requires typed { IsTyped ops.now }
-    ensures ending { IfOk result (EndsAs (L.held lib.old) (λ reads. EndsFromBody ops.now (invoke_view invoke.entry) (reads 1 (invoke_view invoke.entry).body_name))
-        (names_of (invoke_view invoke.entry)) (L.fault_count lib.old) (L.fault_count lib.new)) }
-    ensures same { L.held lib.new ≡ L.held lib.old }
-    ensures later { L.fault_count lib.old ≤ L.fault_count lib.new }
+    ensures comes { IfOk result (Comes L.state L.gave (body_plan (invoke_view invoke.entry) ops.now) lib.old lib.new) }
+    ensures same { (L.state lib.new).held ≡ (L.state lib.old).held }
+    ensures later { (L.state lib.old).faults ≤ (L.state lib.new).faults }
 {
     match lib.read(alloc, invoke.body_name, BODY_LIMIT) {
         Ok(body) => from_run(alloc, ops, body.as_slice(), invoke.budget),
@@ -109,7 +109,7 @@ fn from_body<L: Library>(
 fn from_run(alloc: Global, ops: &[Op], body: &[u8], budget: u64) -> Result<Ending, AllocError>
     requires built { AllByRecursion IsBuiltOperator ops.now }
     requires typed { IsTyped ops.now }
-    ensures { IfOk result (EndsOnBody ops.now budget body.now) }
+    ensures { IfOk result (λ e. e ≡ due (body_end ops.now budget (check_body body.now))) }
 {
     if body.len() as u64 > BODY_LIMIT {
         return Ending::recording_fault(alloc, TOO_LONG);

@@ -1,5 +1,5 @@
-use Rattle.std.proofs.Common.{arith}
-use Rattle.sledge.proofs.Pieces.{split_whole, append_at, prefix_at}
+use Rattle.std.proofs.Common.{arith, sym, ◌∙◌}
+use Rattle.sledge.proofs.Pieces.{append_at, nothing_left, prefix_at, split_whole}
 use Rattle.sledge.proofs.delivery.write_pieces.Goals as goal
 
 pub pieces-preserved : goal.pieces-preserved
@@ -10,3 +10,8 @@ pieces-preserved g c =
       some = λ z h. c.pieces.invariant.some z (prefix_at _ _ z _ _ _ whole c.in_ok-write.ensures.ok h);
       later = omega (arith, c.in_ok-write.ensures.later);
     }
+
+-- at the end nothing is left
+pub returns-clause-all : goal.returns-clause-all
+returns-clause-all g c =
+    c.pieces.invariant.all (g.S.Sink.state c.pieces.sink) (nothing_left _ c.pieces.rest.now (sym c.is_empty.ensures ∙ c.pieces-test.false))

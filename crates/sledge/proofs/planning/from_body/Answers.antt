@@ -1,12 +1,12 @@
-use Rattle.std.proofs.Common.{rules}
+use Rattle.std.proofs.Common.{rules, None}
 use Rattle.std.proofs.lemmas.Result.{IfOk-weaker}
-use Rattle.sledge.proofs.CutFiles.{ends_on_body}
-use Rattle.sledge.specs.CommandLine.{invoke_view}
-use Rattle.sledge.specs.Endings.{names_of}
+use Rattle.sledge.proofs.Walking.{comes_end, comes_failed, comes_given}
 use Rattle.sledge.proofs.planning.from_body.Goals as goal
 
-pub returns-in-Ok-clause-ending : goal.returns-in-Ok-clause-ending
-returns-in-Ok-clause-ending g c =
-    IfOk-weaker c.from_run.result _ _
-    (λ e p. ends_on_body c.args.ops.now (invoke_view c.args.invoke) (g.L.Library.held c.args.lib.now) c.as_slice.result.now (names_of (invoke_view c.args.invoke)) _ _ e (search rules) p)
-    c.from_run.ensures
+pub returns-in-Err-Missing-clause-comes : goal.returns-in-Err-Missing-clause-comes
+returns-in-Err-Missing-clause-comes g c =
+    IfOk-weaker c.not_read.result _ _ (λ e p. comes_given _ _ _ _ _ None _ _ _ e (search rules) (comes_end _ _ _ _ e p)) c.not_read.ensures
+
+pub returns-in-Err-Failed-clause-comes : goal.returns-in-Err-Failed-clause-comes
+returns-in-Err-Failed-clause-comes g c =
+    IfOk-weaker c.not_read-in-Err-Failed.result _ _ (λ e p. comes_failed _ _ _ _ _ _ _ e (search rules) p) c.not_read-in-Err-Failed.ensures

@@ -1,16 +1,27 @@
-use Rattle.std.proofs.Common.{rules}
+use Rattle.std.proofs.Common.{Some, ap, subst, sym, ◌∙◌}
 use Rattle.std.proofs.lemmas.Result.{IfOk-weaker}
-use Rattle.sledge.proofs.CutFiles.{ends_always}
+use Rattle.sledge.proofs.Walking.{comes_end}
+use Rattle.sledge.specs.CommandLine.{command_view}
+use Rattle.sledge.specs.Commands.{plan_of}
+use Rattle.sledge.specs.Plans.{Comes}
 use Rattle.sledge.proofs.planning.plan.Goals as goal
 
-pub returns-in-None-clause-ending : goal.returns-in-None-clause-ending
-returns-in-None-clause-ending g c =
-    IfOk-weaker c.usage.result _ _ (λ e p. ends_always _ _ _ _ _ e (λ reads. search rules)) c.usage.ensures
+pub returns-in-None-clause-comes : goal.returns-in-None-clause-comes
+returns-in-None-clause-comes g c =
+    IfOk-weaker c.usage.result _ _
+    (λ e p. subst (λ asked. Comes g.L.Library.state g.L.Library.gave (plan_of asked) c.args.lib.now c.args.lib.now e) c.in-None.ensures (comes_end _ _ _ _ e p))
+    c.usage.ensures
 
-pub returns-in-Some-Help-clause-ending : goal.returns-in-Some-Help-clause-ending
-returns-in-Some-Help-clause-ending g c =
-    IfOk-weaker c.shown.result _ _ (λ e p. ends_always _ _ _ _ _ e (λ reads. search rules)) c.shown.ensures
+pub returns-in-Some-Help-clause-comes : goal.returns-in-Some-Help-clause-comes
+returns-in-Some-Help-clause-comes g c =
+    let asks = ap (λ command. Some (command_view command)) (sym c.in-Some-Help.field-0-is) ∙ c.in-Some-Help.ensures in
+    IfOk-weaker c.shown.result _ _
+    (λ e p. subst (λ asked. Comes g.L.Library.state g.L.Library.gave (plan_of asked) c.args.lib.now c.args.lib.now e) asks (comes_end _ _ _ _ e p))
+    c.shown.ensures
 
-pub returns-in-Some-Version-clause-ending : goal.returns-in-Some-Version-clause-ending
-returns-in-Some-Version-clause-ending g c =
-    IfOk-weaker c.shown-in-Some-Version.result _ _ (λ e p. ends_always _ _ _ _ _ e (λ reads. search rules)) c.shown-in-Some-Version.ensures
+pub returns-in-Some-Version-clause-comes : goal.returns-in-Some-Version-clause-comes
+returns-in-Some-Version-clause-comes g c =
+    let asks = ap (λ command. Some (command_view command)) (sym c.in-Some-Version.field-0-is) ∙ c.in-Some-Version.ensures in
+    IfOk-weaker c.shown-in-Some-Version.result _ _
+    (λ e p. subst (λ asked. Comes g.L.Library.state g.L.Library.gave (plan_of asked) c.args.lib.now c.args.lib.now e) asks (comes_end _ _ _ _ e p))
+    c.shown-in-Some-Version.ensures

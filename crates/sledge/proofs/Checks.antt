@@ -1,0 +1,139 @@
+-- What the checks of a module's file and of a body's file make of them, said by what bytes spell; and that the first bytes of a file do for it.
+use Rattle.std.proofs.Common.{◌≡◌, ℕ, ◌+◌, ◌<◌, ◌≤◌, Bool, true, false, cond, nat_lt, min, List, ◌++◌, append-nil, length, take, Option, None, Some, Ok, Err, inl, inr, refl, sym, ap, ◌∙◌, arith}
+use Rattle.std.proofs.lemmas.Bool.Decides.{nat_tests}
+use Rattle.std.proofs.lemmas.List.{length-take, take-append-drop}
+use Rattle.std.proofs.Math.ListN.{drop_of_length-le}
+use Rattle.wasm_ops.specs.declared.faults.Fault.{Fault}
+use Rattle.wasm_ops.specs.declared.modules.Module.{Module}
+use Rattle.wasm_ops.specs.declared.operators.Op.{Op}
+use Rattle.wasm_code.specs.Bodies.{beginning}
+use Rattle.wasm_reader.proofs.ModuleLaws.{whole_module_decided}
+use Rattle.wasm_reader.specs.Modules.{RefusesModule, SpellsModule, most_bytes, whole_module}
+use Rattle.sledge.proofs.Built.{is_built, not_built_is}
+use Rattle.sledge.proofs.Walking.{IsSteady}
+use Rattle.sledge.specs.BuiltModule.{IsBuilt, IsNotBuilt, built_of}
+use Rattle.sledge.specs.CommandLine.{Asked, AsksHelp, AsksVersion, AsksInvoke, InvokeWords}
+use Rattle.sledge.specs.Commands.{body_limit, body_plan, check_body, check_module, module_step, not_built, plan_of, ran, runnable}
+use Rattle.sledge.specs.Endings.{Ended, module_fault, recording_fault}
+use Rattle.sledge.specs.Execution.{Execution, execution_of}
+use Rattle.sledge.specs.Plans.{Ends, Goes, Plan, Step, Stops, checked_file, go_on, limited}
+
+-- Lengths and fronts.
+
+pub is_long : (most n : ℕ) → most < n → nat_lt most n ≡ true
+is_long most n h = grind (arith, nat_tests)
+
+pub is_short : (most n : ℕ) → n ≤ most → nat_lt most n ≡ false
+is_short most n h = grind (arith, nat_tests)
+
+pub fits_limit : (most n : ℕ) → nat_lt most n ≡ false → n ≤ most
+fits_limit most n e = grind (arith, nat_tests)
+
+lt_min : (n l : ℕ) → nat_lt n (min (n + 1) l) ≡ nat_lt n l
+lt_min n l = grind (arith, nat_tests)
+
+take_whole : (n : ℕ) (xs : List ℕ) → length xs ≤ n → take n xs ≡ xs
+take_whole n xs h = sym (append-nil (take n xs)) ∙ ap (λ (ys : List ℕ). take n xs ++ ys) (sym (drop_of_length-le xs h)) ∙ take-append-drop n xs
+
+-- a limited check sees of a file no more than one byte above the limit
+pub limited_front : {A : Type 0} (most : ℕ) (too_long : Ended) (check : List ℕ → Step A) (whole : List ℕ)
+    → limited most too_long check (take (most + 1) whole) ≡ limited most too_long check whole
+limited_front {A} most too_long check whole = at (nat_lt most (length whole)) refl
+  where
+    same_test : nat_lt most (length (take (most + 1) whole)) ≡ nat_lt most (length whole)
+    same_test = ap (nat_lt most) (length-take (most + 1) whole) ∙ lt_min most (length whole)
+
+    at : (b : Bool) → nat_lt most (length whole) ≡ b → limited most too_long check (take (most + 1) whole) ≡ limited most too_long check whole
+    at true e =
+        ap (λ b. cond b (Stops too_long) (check (take (most + 1) whole))) (same_test ∙ e) ∙ ap (λ b. cond b (Stops too_long) (check whole)) (sym e)
+    at false e =
+        let fits = fits_limit most (length whole) e in
+        let long : length whole ≤ most + 1 = omega arith in
+        ap (limited most too_long check) (take_whole (most + 1) whole long)
+
+-- The check of a module.
+
+-- bytes that spell a module are checked by its operators
+pub check_spelt : (bytes : List ℕ) (parts : Module) → SpellsModule bytes parts → check_module bytes ≡ runnable (built_of parts)
+unfolding check_module
+check_spelt bytes parts s =
+    ap (λ b. cond b (Stops (module_fault 0 21 0)) (module_step (whole_module.read (beginning bytes)))) (is_short most_bytes (length bytes) s.small)
+    ∙ ap module_step ((whole_module_decided.decides (beginning bytes)).only parts s.after s.spelt)
+
+-- bytes that are refused are refused so
+pub check_refused : (bytes : List ℕ) (fault : Fault) → RefusesModule bytes fault → check_module bytes ≡ Stops (module_fault 0 fault.number fault.place)
+unfolding check_module
+check_refused bytes fault (inl many) =
+    ap (λ b. cond b (Stops (module_fault 0 21 0)) (module_step (whole_module.read (beginning bytes)))) (is_long most_bytes (length bytes) many.large)
+    ∙ ap (λ (f : Fault). Stops (module_fault 0 f.number f.place)) (sym many.told)
+check_refused bytes fault (inr item) =
+    ap (λ b. cond b (Stops (module_fault 0 21 0)) (module_step (whole_module.read (beginning bytes)))) (is_short most_bytes (length bytes) item.small)
+    ∙ ap module_step ((whole_module_decided.decides (beginning bytes)).only_refused fault item.refused)
+
+pub check_built : (bytes : List ℕ) (ops : List Op) → IsBuilt bytes ops → check_module bytes ≡ Goes ops
+check_built bytes ops b = check_spelt bytes b.parts b.spelt ∙ ap runnable (is_built b.parts ops b.built)
+
+pub check_not_built : (bytes : List ℕ) → IsNotBuilt bytes → check_module bytes ≡ Stops not_built
+check_not_built bytes n = check_spelt bytes n.parts n.spelt ∙ ap runnable (not_built_is n.parts n.other)
+
+module_front : (whole : List ℕ) → check_module (take (most_bytes + 1) whole) ≡ check_module whole
+unfolding check_module
+module_front whole = limited_front most_bytes (module_fault 0 21 0) (λ all. module_step (whole_module.read (beginning all))) whole
+
+-- The check of a body.
+
+pub check_long : (body : List ℕ) → body_limit < length body → check_body body ≡ Stops (recording_fault 76)
+check_long body h = ap (λ b. cond b (Stops (recording_fault 76)) (Goes body)) (is_long body_limit (length body) h)
+
+pub check_short : (body : List ℕ) → length body ≤ body_limit → check_body body ≡ Goes body
+check_short body h = ap (λ b. cond b (Stops (recording_fault 76)) (Goes body)) (is_short body_limit (length body) h)
+
+-- Every plan is steady.
+
+-- a check refuses with a status of files
+abbrev StopsWell : {A : Type 0} → Step A → Type 0
+StopsWell (Stops e) = IsSteady (Ends e)
+StopsWell (Goes value) = Unit {0}
+
+go_on_steady : {A : Type 0} (next : A → Plan) (step : Step A) → ((value : A) → IsSteady (next value)) → StopsWell step → IsSteady (go_on next step)
+go_on_steady next (Stops e) steady well = well
+go_on_steady next (Goes value) steady well = steady value
+
+pub checked_file_steady : {A : Type 0} (name : List ℕ) (most : ℕ) (check : List ℕ → Step A) (next : A → Plan)
+    → ((whole : List ℕ) → check (take (most + 1) whole) ≡ check whole) → ((bytes : List ℕ) → StopsWell (check bytes)) → ((value : A) → IsSteady (next value))
+    → IsSteady (checked_file name most check next)
+checked_file_steady name most check next front well steady =
+    (refl, λ whole. ap (go_on next) (front whole), λ bytes. go_on_steady next (check bytes) steady (well bytes))
+
+limited_well : {A : Type 0} (b : Bool) (too_long : Ended) (step : Step A) → IsSteady (Ends too_long) → StopsWell step → StopsWell (cond b (Stops too_long) step)
+limited_well true too_long step long well = long
+limited_well false too_long step long well = well
+
+runnable_well : (built : Option (List Op)) → StopsWell (runnable built)
+runnable_well None = tt
+runnable_well (Some ops) = tt
+
+module_well : (bytes : List ℕ) → StopsWell (check_module bytes)
+unfolding check_module
+module_well bytes = limited_well (nat_lt most_bytes (length bytes)) (module_fault 0 21 0) (module_step (whole_module.read (beginning bytes))) tt (at (whole_module.read (beginning bytes)))
+  where
+    at : (read : _) → StopsWell (module_step read)
+    at (Ok read) = runnable_well (built_of read.0)
+    at (Err fault) = tt
+
+ran_steady : (run : Option Execution) → IsSteady (Ends (ran run))
+ran_steady None = tt
+ran_steady (Some run) = tt
+
+body_plan_steady : (words : InvokeWords) (ops : List Op) → IsSteady (body_plan words ops)
+body_plan_steady words ops =
+    checked_file_steady words.body_name body_limit check_body _
+    (limited_front body_limit (recording_fault 76) (λ body. Goes body))
+    (λ bytes. limited_well (nat_lt body_limit (length bytes)) (recording_fault 76) (Goes bytes) tt tt)
+    (λ body. ran_steady (execution_of ops words.budget))
+
+pub plan_steady : (asked : Asked) → IsSteady (plan_of (Some asked))
+plan_steady AsksHelp = tt
+plan_steady AsksVersion = tt
+plan_steady (AsksInvoke words) =
+    checked_file_steady words.module_name most_bytes check_module (body_plan words) module_front module_well (body_plan_steady words)

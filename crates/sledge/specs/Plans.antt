@@ -1,0 +1,69 @@
+-- What a command reads, in which order, and how it ends by what it has read.
+use Rattle.std.specs.Prelude.{◌≡◌, ◌⊎◌, ℕ, suc, nat_lt, if◌then◌else◌, List, [], ◌∷◌, length, Option, None, Some}
+use Rattle.outside.specs.Faults.{Rose}
+use Rattle.outside.specs.Library.{Files, LibraryState}
+use Rattle.sledge.specs.Endings.{Due, Ended, due, not_read}
+
+-- a plan: an ending; or the name of a file, the most bytes that it may have, and what follows for its bytes or for none
+pub data Plan : Type 0 where
+  Ends : (e : Ended) → Plan
+  Reads : (name : List ℕ) (most : ℕ) (next : Option (List ℕ) → Plan) → Plan
+
+-- the ending of a plan over files that are told
+abbrev pub over : Files → Plan → Ended
+over files (Ends e) = e
+over files (Reads name most next) = over files (next (files name))
+
+-- The parts that plans are made of.
+
+-- what a check makes of a file's bytes: the command is refused, or goes on with a value
+pub data Step (A : Type 0) : Type 0 where
+  Stops : (e : Ended) → Step A
+  Goes : (value : A) → Step A
+
+-- the plan goes on with the value, if there is one
+abbrev pub go_on : {A : Type 0} → (next : A → Plan) → Step A → Plan
+go_on next (Stops e) = Ends e
+go_on next (Goes value) = next value
+
+-- the plan from the bytes of this file on: where there is none, it cannot be read
+abbrev pub found : {A : Type 0} → (name : List ℕ) → (check : List ℕ → Step A) → (next : A → Plan) → Option (List ℕ) → Plan
+found name check next None = Ends (not_read name)
+found name check next (Some bytes) = go_on next (check bytes)
+
+-- this file is read, and checked so, and then
+abbrev pub checked_file : {A : Type 0} → (name : List ℕ) (most : ℕ) → (check : List ℕ → Step A) → (next : A → Plan) → Plan
+checked_file name most check next = Reads name most (found name check next)
+
+-- a file is refused so where it has more bytes than it may, and else checked
+abbrev pub limited : {A : Type 0} → (most : ℕ) → (too_long : Ended) → (check : List ℕ → Step A) → List ℕ → Step A
+limited most too_long check bytes = if nat_lt most (length bytes) then Stops too_long else check bytes
+
+-- these files are read, each is checked by its number before the next one is read, and then; their names may stand in a file that was read before
+abbrev pub checked_files
+    : {A : Type 0} → (number : ℕ) (names : List (List ℕ)) (most : ℕ) → (check : ℕ → List ℕ → Step A) → (next : List A → Plan) → Plan
+checked_files number [] most check next = next []
+checked_files number (name ∷ names) most check next =
+    checked_file name most (check number) (λ value. checked_files (suc number) names most check (λ values. next (value ∷ values)))
+
+-- A plan that is carried out by reads.
+
+-- the file could not be read, and the library counted that
+pub record FailsToRead (name : List ℕ) (old new : LibraryState) (e : Ended) : Type 0 where
+  pub ends : e ≡ not_read name
+  pub rose : Rose old.faults new.faults
+
+-- the reads of the plan were made, in its order and no others, from one state of a library to another, and it ended so by what they gave;
+-- or the last of them failed and was counted
+abbrev pub Walks
+    : {L : Type 0} → (state : L → LibraryState) → (gave : L → L → List ℕ → ℕ → Option (List ℕ) → Type 0) → Plan → (old new : L) → Ended → Type 0
+Walks state gave (Ends planned) old new e = (e ≡ planned) × (new ≡ old)
+Walks {L} state gave (Reads name most next) old new e =
+    FailsToRead name (state old) (state new) e
+    ⊎ ((between : L) × (answer : Option (List ℕ)) × gave old between name most answer × Walks state gave (next answer) between new e)
+
+-- what is due by such reads
+pub record Comes {L : Type 0} (state : L → LibraryState) (gave : L → L → List ℕ → ℕ → Option (List ℕ) → Type 0) (plan : Plan) (old new : L) (planned : Due) : Type 0 where
+  pub ending : Ended
+  pub walk : Walks state gave plan old new ending
+  pub is_due : planned ≡ due ending

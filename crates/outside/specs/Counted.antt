@@ -1,7 +1,7 @@
 -- What contracts see of the adapters: counts of faults, and what a write adds to the bytes that a stream of std tells.
 use Rattle.std.specs.Prelude.{ℕ, List, Option, None, take}
 use Rattle.std.specs.Io.KnownBytes.{Appends as Gains}
-use Rattle.outside.specs.Library.{LibraryState, Tells}
+use Rattle.outside.specs.Library.{Fetched, LibraryState, Tells}
 use Rattle.outside.specs.Sink.{SinkState}
 
 -- a sink over a stream as contracts see it
@@ -14,8 +14,8 @@ abbrev pub untold_library : ℕ → LibraryState
 untold_library faults = record { held = None; faults = faults }
 
 -- what such a library gave is known by its calls alone
-abbrev pub UntoldGave : (before now : ℕ) → (name : List ℕ) → (most : ℕ) → Option (List ℕ) → Type 0
-UntoldGave before now name most answer = Tells (untold_library before) (untold_library now) name most answer
+abbrev pub UntoldGave : (before now : ℕ) → (name : List ℕ) → (most : ℕ) → Fetched → Type 0
+UntoldGave before now name most fetched = Tells (untold_library before) (untold_library now) name most fetched
 
 -- a sink that tells nothing but its count of faults
 abbrev pub untold_sink : ℕ → SinkState

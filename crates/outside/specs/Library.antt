@@ -32,21 +32,27 @@ FetchCause name old new Failed = Rose old.faults new.faults
 FetchCause name old new Missing = MissingCause old.held name old.faults new.faults
 FetchCause name old new NoMemory = ⊤
 
--- what a read gave that did not fail: the bytes, or that no file has the name
-abbrev pub Given : Result (Vec ℕ Global) Fetch → (gave : Option (List ℕ) → Type 0) → Type 0
-Given (Ok bytes) gave = gave (Some bytes.items)
-Given (Err Missing) gave = gave None
-Given (Err Failed) gave = ⊤
-Given (Err NoMemory) gave = ⊤
+-- what a call of `read` came to, where memory did not run out: it answered the bytes, or that no file has the name; or it failed
+pub data Fetched : Type 0 where
+  Gives : (answer : Option (List ℕ)) → Fetched
+  Fails : Fetched
 
--- an answer is that of the held file, where the library tells it; else a name has no file only where the count rose
-abbrev pub IsTold : Option Files → (name : List ℕ) → (most before now : ℕ) → Option (List ℕ) → Type 0
-IsTold (Some files) name most before now answer = option_map (take (most + 1)) (files name) ≡ answer
-IsTold None name most before now None = Rose before now
-IsTold None name most before now (Some bytes) = ⊤
+-- the result of a call is known to be what the call came to
+abbrev pub CameTo : Result (Vec ℕ Global) Fetch → (gave : Fetched → Type 0) → Type 0
+CameTo (Ok bytes) gave = gave (Gives (Some bytes.items))
+CameTo (Err Missing) gave = gave (Gives None)
+CameTo (Err Failed) gave = gave Fails
+CameTo (Err NoMemory) gave = ⊤
 
--- what is known of an answer that a read gave between two states
-pub record Tells (old new : LibraryState) (name : List ℕ) (most : ℕ) (answer : Option (List ℕ)) : Type 0 where
-  pub told : IsTold old.held name most old.faults new.faults answer
+-- an answer is that of the held file, where the library tells it; else a name has no file only where the count rose; and so it is for a failure
+abbrev pub IsTold : Option Files → (name : List ℕ) → (most before now : ℕ) → Fetched → Type 0
+IsTold (Some files) name most before now (Gives answer) = option_map (take (most + 1)) (files name) ≡ answer
+IsTold None name most before now (Gives None) = Rose before now
+IsTold None name most before now (Gives (Some bytes)) = ⊤
+IsTold held name most before now Fails = Rose before now
+
+-- what is known of what a read came to between two states
+pub record Tells (old new : LibraryState) (name : List ℕ) (most : ℕ) (fetched : Fetched) : Type 0 where
+  pub told : IsTold old.held name most old.faults new.faults fetched
   pub same : new.held ≡ old.held
   pub later : old.faults ≤ new.faults

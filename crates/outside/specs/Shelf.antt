@@ -5,7 +5,7 @@ use Rattle.std.specs.List.{list_any}
 use Rattle.std.specs.Str.{bytes_eq}
 use Rattle.std.specs.declared.alloc.Global.{Global}
 use Rattle.outside.specs.Faults.{one_more}
-use Rattle.outside.specs.Library.{Files, LibraryState, Tells}
+use Rattle.outside.specs.Library.{Fetched, Files, LibraryState, Tells}
 use Rattle.outside.specs.declared.libraries.Fetch.{Fetch}
 use Rattle.outside.specs.declared.libraries.Fetch.TheVariants.{Failed, Missing, NoMemory}
 
@@ -30,8 +30,8 @@ abbrev pub shelf_state : Contents → LibraryState
 shelf_state s = record { held = Some (files_of s.files); faults = s.faults }
 
 -- what a shelf gave is what it holds
-abbrev pub ShelfGave : (old new : Contents) → (name : List ℕ) → (most : ℕ) → Option (List ℕ) → Type 0
-ShelfGave old new name most answer = Tells (shelf_state old) (shelf_state new) name most answer
+abbrev pub ShelfGave : (old new : Contents) → (name : List ℕ) → (most : ℕ) → Fetched → Type 0
+ShelfGave old new name most fetched = Tells (shelf_state old) (shelf_state new) name most fetched
 
 -- the next call is one of those that fail
 abbrev pub fails : Contents → Bool

@@ -7,7 +7,7 @@ ghost use Rattle.std.specs.Io.KnownBytes.{Keeps, Appends as Gains};
 ghost use Rattle.outside.specs.Faults.{one_more, FailsOnlyWhereRose};
 ghost use Rattle.outside.specs.Sink.{Appends, TakesPrefix};
 ghost use Rattle.outside.specs.Counted.{GainsPrefix, UntoldGave, untold_library, untold_sink};
-ghost use Rattle.outside.specs.Library.{FetchCause, Given};
+ghost use Rattle.outside.specs.Library.{CameTo, FetchCause};
 
 use crate::faults::Failed;
 use crate::libraries::{Fetch, Library};
@@ -69,7 +69,7 @@ impl<'a, R: Files> FileLibrary<'a, R> {
         file: &mut F,
         most: u64,
     ) -> Result<Vec<u8>, Fetch>
-        ensures given { (name : List ℕ) → Given result (UntoldGave self.old self.new name most) }
+        ensures given { (name : List ℕ) → CameTo result (UntoldGave self.old self.new name most) }
         ensures at_most { IfOk result (λ bytes. length bytes.items ≤ most + 1) }
         ensures cause { (name : List ℕ) → IfErr result (FetchCause name (untold_library self.old) (untold_library self.new)) }
         ensures later { self.old ≤ self.new }
@@ -107,7 +107,7 @@ impl<'a, R: Files> Library for FileLibrary<'a, R> {
 
     ghost gave = { UntoldGave };
 
-    ghost tells = { λ old new name most answer given. given };
+    ghost tells = { λ old new name most fetched given. given };
 
     fn read(&mut self, alloc: Global, name: &str, most: u64) -> Result<Vec<u8>, Fetch> {
         match fs::open(self.files, name) {

@@ -1,6 +1,6 @@
 // Where the files of the program come from.
-ghost use Rattle.std.specs.Prelude.{◌≡◌, ℕ, ◌+◌, ◌≤◌, length, IfOk, IfErr, List, Option};
-ghost use Rattle.outside.specs.Library.{FetchCause, Given, Held, LibraryState, Tells};
+ghost use Rattle.std.specs.Prelude.{◌≡◌, ℕ, ◌+◌, ◌≤◌, length, IfOk, IfErr, List};
+ghost use Rattle.outside.specs.Library.{CameTo, FetchCause, Fetched, Held, LibraryState, Tells};
 
 use std::alloc::Global;
 
@@ -18,20 +18,19 @@ pub enum Fetch {
 /// Files by their names.
 ///
 /// A library may tell which names it holds and with what bytes. No call changes that. Of a library
-/// that does not tell, contracts still know which answers its calls gave: only a call of `read`
-/// gives one.
+/// that does not tell, contracts still know what its calls came to: only a call of `read` gives
+/// an answer.
 pub trait Library {
     // What it holds, where it tells that, and how many calls have failed so far.
     ghost state: { Self → LibraryState };
 
-    // A call of `read` between these two states, for this name and this limit, gave these bytes,
-    // or said that no file has the name.
-    ghost gave: { Self → Self → List ℕ → ℕ → Option (List ℕ) → Type 0 };
+    // A call of `read` between these two states, for this name and this limit, came to this.
+    ghost gave: { Self → Self → List ℕ → ℕ → Fetched → Type 0 };
 
     /// The whole file of this name where it has at most `most` bytes, and else its first
     /// `most + 1` bytes, by which the caller sees that it is too long.
     fn read(&mut self, alloc: Global, name: &str, most: u64) -> Result<Vec<u8>, Fetch>
-        ensures given { Given result (gave self.old self.new name.now most) }
+        ensures given { CameTo result (gave self.old self.new name.now most) }
 
         // What is held is answered.
         ensures bytes { IfOk result (λ bytes. Held (state self.old).held name.now most bytes.items) }
@@ -47,7 +46,7 @@ pub trait Library {
     fn faults(&self) -> u64
         ensures { result ≡ (state self.now).faults };
 
-    // What was given is what the library holds, where it tells that.
-    ghost tells: { (old new : Self) (name : List ℕ) (most : ℕ) (answer : Option (List ℕ))
-        → gave old new name most answer → Tells (state old) (state new) name most answer };
+    // What a call gave is what the library holds, where it tells that.
+    ghost tells: { (old new : Self) (name : List ℕ) (most : ℕ) (fetched : Fetched)
+        → gave old new name most fetched → Tells (state old) (state new) name most fetched };
 }

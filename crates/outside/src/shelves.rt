@@ -2,7 +2,7 @@
 ghost use Rattle.std.specs.Prelude.{◌≡◌, ◌+◌, ◌≤◌, length, map, take, find, IfOk, IfErr};
 ghost use Rattle.std.specs.Option.{option_copied};
 ghost use Rattle.std.specs.Str.{bytes_eq};
-ghost use Rattle.outside.specs.Library.{FetchCause, Given, Held};
+ghost use Rattle.outside.specs.Library.{CameTo, FetchCause, Held};
 ghost use Rattle.outside.specs.Shelf.{Answers, ShelfGave, after_call, answer, file_of, files_of, shelf_state};
 
 use crate::libraries::{Fetch, Library};
@@ -85,10 +85,10 @@ impl Library for Shelf {
 
     ghost gave = { ShelfGave };
 
-    ghost tells = { λ old new name most answer given. given };
+    ghost tells = { λ old new name most fetched given. given };
 
     fn read(&mut self, alloc: Global, name: &str, most: u64) -> Result<Vec<u8>, Fetch>
-        ensures given { Given result (ShelfGave self.old self.new name.now most) }
+        ensures given { CameTo result (ShelfGave self.old self.new name.now most) }
         ensures bytes { IfOk result (λ bytes. Held (shelf_state self.old).held name.now most bytes.items) }
         ensures at_most { IfOk result (λ bytes. length bytes.items ≤ most + 1) }
         ensures cause { IfErr result (FetchCause name.now (shelf_state self.old) (shelf_state self.new)) }

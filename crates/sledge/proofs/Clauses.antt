@@ -15,8 +15,8 @@ use Rattle.sledge.specs.declared.status.Status.{Status}
 use Rattle.sledge.specs.declared.status.Status.TheVariants as status
 
 -- the reads came to this ending, or there was no memory
-abbrev pub Reached : {L : Type 0} → (L → LibraryState) → Giving L → Option Asked → (old new : L) → Ended → Type 0
-Reached state gave asked old new e = Walks state gave (plan_of asked) old new e ⊎ (e ≡ out_of_memory)
+abbrev pub Reached : {L : Type 0} → Giving L → Option Asked → (old new : L) → Ended → Type 0
+Reached gave asked old new e = Walks gave (plan_of asked) old new e ⊎ (e ≡ out_of_memory)
 
 -- a refusal leaves one line on the notes, and nothing on the output
 pub leaves_refused : (e : Ended) (result : Status) (out out' notes notes' : SinkState) → Leaves e result out out' notes notes'
@@ -32,22 +32,22 @@ broke_rose text note out out' notes notes' (inr t) = inr t.notes_rose
 
 -- the ending over a library's files, for words of a shape and for others
 ends_over : {L : Type 0} (state : L → LibraryState) (gave : Giving L) → Lawful state gave → (files : Files) (asked : Option Asked) (old new : L) (e : Ended)
-    → (state old).held ≡ Some files → Walks state gave (plan_of asked) old new e → (e ≡ over files (plan_of asked)) ⊎ Failed e (state old) (state new)
+    → (state old).held ≡ Some files → Walks gave (plan_of asked) old new e → (e ≡ over files (plan_of asked)) ⊎ Failed e (state old) (state new)
 ends_over state gave tells files None old new e holds walk = inl walk.0
 ends_over state gave tells files (Some asked) old new e holds walk = walk_over state gave tells files (plan_of (Some asked)) old new e (plan_steady asked) holds walk
 
 -- no ending has the status of a write that failed
-never_write_fault : {L : Type 0} (state : L → LibraryState) (gave : Giving L) (asked : Option Asked) (old new : L) (e : Ended) → Reached state gave asked old new e → status_of e ≢ status.WriteFault
-never_write_fault state gave None old new e (inl walk) = λ is. let same = ap status_of walk.0 in cc
-never_write_fault state gave (Some asked) old new e (inl walk) =
-    λ is. elim (walk_of_files state gave (plan_of (Some asked)) old new e (plan_steady asked) walk) [
+never_write_fault : {L : Type 0} (gave : Giving L) (asked : Option Asked) (old new : L) (e : Ended) → Reached gave asked old new e → status_of e ≢ status.WriteFault
+never_write_fault gave None old new e (inl walk) = λ is. let same = ap status_of walk.0 in cc
+never_write_fault gave (Some asked) old new e (inl walk) =
+    λ is. elim (walk_of_files gave (plan_of (Some asked)) old new e (plan_steady asked) walk) [
       | inl own ↦ absurd (subst IsOfFiles is own)
       | inr read ↦ cc
     ]
-never_write_fault state gave asked old new e (inr m) = λ is. let same = ap status_of m in cc
+never_write_fault gave asked old new e (inr m) = λ is. let same = ap status_of m in cc
 
 yields : {L : Type 0} (state : L → LibraryState) (gave : Giving L) → Lawful state gave → (files : Files) (asked : Option Asked) (old new : L) (e : Ended) (result : Status) (out out' notes notes' : SinkState)
-    → (state old).held ≡ Some files → Reached state gave asked old new e → Leaves e result out out' notes notes'
+    → (state old).held ≡ Some files → Reached gave asked old new e → Leaves e result out out' notes notes'
     → Yields (status_of (over files (plan_of asked))) result (state old) (state new) out out' notes notes'
 yields state gave tells files asked old new e result out out' notes notes' holds reached (inr (s, w)) =
     inr (inr (inl (s, broke_rose (text_of e) (note_of e) out out' notes notes' w)))
@@ -59,7 +59,7 @@ yields state gave tells files asked old new e result out out' notes notes' holds
     ]
 
 took : {L : Type 0} (state : L → LibraryState) (gave : Giving L) → Lawful state gave → (files : Files) (asked : Option Asked) (old new : L) (e : Ended) (result : Status) (out out' notes notes' : SinkState)
-    → (state old).held ≡ Some files → Reached state gave asked old new e → Leaves e result out out' notes notes'
+    → (state old).held ≡ Some files → Reached gave asked old new e → Leaves e result out out' notes notes'
     → result ≡ status.Ok → Took (over files (plan_of asked)) out out' notes notes'
 took state gave tells files asked old new e result out out' notes notes' holds reached (inr (s, w)) done = cc
 took state gave tells files asked old new e result out out' notes notes' holds (inr m) (inl (s, w)) done = let same = s ∙ ap status_of m in cc
@@ -72,32 +72,32 @@ took state gave tells files asked old new e result out out' notes notes' holds (
 -- The clauses.
 
 pub leaves_exactly : {L : Type 0} (state : L → LibraryState) (gave : Giving L) → Lawful state gave → (held : Option Files) (asked : Option Asked) (old new : L) (e : Ended) (result : Status) (out out' notes notes' : SinkState)
-    → (state old).held ≡ held → Reached state gave asked old new e → Leaves e result out out' notes notes'
+    → (state old).held ≡ held → Reached gave asked old new e → Leaves e result out out' notes notes'
     → IfSome held (λ files. Yields (status_of (over files (plan_of asked))) result (state old) (state new) out out' notes notes')
 leaves_exactly state gave tells None asked old new e result out out' notes notes' holds reached leaves = tt
 leaves_exactly state gave tells (Some files) asked old new e result out out' notes notes' holds reached leaves =
     yields state gave tells files asked old new e result out out' notes notes' holds reached leaves
 
 pub leaves_done : {L : Type 0} (state : L → LibraryState) (gave : Giving L) → Lawful state gave → (held : Option Files) (asked : Option Asked) (old new : L) (e : Ended) (result : Status) (out out' notes notes' : SinkState)
-    → (state old).held ≡ held → Reached state gave asked old new e → Leaves e result out out' notes notes'
+    → (state old).held ≡ held → Reached gave asked old new e → Leaves e result out out' notes notes'
     → result ≡ status.Ok → IfSome held (λ files. Took (over files (plan_of asked)) out out' notes notes')
 leaves_done state gave tells None asked old new e result out out' notes notes' holds reached leaves done = tt
 leaves_done state gave tells (Some files) asked old new e result out out' notes notes' holds reached leaves done =
     took state gave tells files asked old new e result out out' notes notes' holds reached leaves done
 
-pub leaves_usage : {L : Type 0} (state : L → LibraryState) (gave : Giving L) (asked : Option Asked) (old new : L) (e : Ended) (result : Status) (out out' notes notes' : SinkState)
-    → Reached state gave asked old new e → Leaves e result out out' notes notes' → result ≡ status.Usage → asked ≡ None
-leaves_usage state gave None old new e result out out' notes notes' reached leaves is = refl
-leaves_usage state gave (Some asked) old new e result out out' notes notes' reached (inr (s, w)) is = cc
-leaves_usage state gave (Some asked) old new e result out out' notes notes' (inr m) (inl (s, w)) is = let same = s ∙ ap status_of m in cc
-leaves_usage state gave (Some asked) old new e result out out' notes notes' (inl walk) (inl (s, w)) is =
-    elim (walk_of_files state gave (plan_of (Some asked)) old new e (plan_steady asked) walk) [
+pub leaves_usage : {L : Type 0} (gave : Giving L) (asked : Option Asked) (old new : L) (e : Ended) (result : Status) (out out' notes notes' : SinkState)
+    → Reached gave asked old new e → Leaves e result out out' notes notes' → result ≡ status.Usage → asked ≡ None
+leaves_usage gave None old new e result out out' notes notes' reached leaves is = refl
+leaves_usage gave (Some asked) old new e result out out' notes notes' reached (inr (s, w)) is = cc
+leaves_usage gave (Some asked) old new e result out out' notes notes' (inr m) (inl (s, w)) is = let same = s ∙ ap status_of m in cc
+leaves_usage gave (Some asked) old new e result out out' notes notes' (inl walk) (inl (s, w)) is =
+    elim (walk_of_files gave (plan_of (Some asked)) old new e (plan_steady asked) walk) [
       | inl own ↦ absurd (subst IsOfFiles (sym s ∙ is) own)
       | inr read ↦ let same = s ∙ read in cc
     ]
 
 read_at : {L : Type 0} (state : L → LibraryState) (gave : Giving L) → Lawful state gave → (held : Option Files) (asked : Option Asked) (old new : L) (e : Ended)
-    → (state old).held ≡ held → Walks state gave (plan_of asked) old new e → status_of e ≡ status.ReadFault
+    → (state old).held ≡ held → Walks gave (plan_of asked) old new e → status_of e ≡ status.ReadFault
     → Rose (state old).faults (state new).faults ⊎ IsSomeAnd held (λ files. status_of (over files (plan_of asked)) ≡ status.ReadFault)
 read_at state gave tells held None old new e holds walk is = let same = ap status_of walk.0 in cc
 read_at state gave tells None (Some asked) old new e holds walk is =
@@ -109,14 +109,27 @@ read_at state gave tells (Some files) (Some asked) old new e holds walk is =
     ]
 
 pub leaves_read_fault : {L : Type 0} (state : L → LibraryState) (gave : Giving L) → Lawful state gave → (asked : Option Asked) (old new : L) (e : Ended) (result : Status) (out out' notes notes' : SinkState)
-    → Reached state gave asked old new e → Leaves e result out out' notes notes' → result ≡ status.ReadFault
+    → Reached gave asked old new e → Leaves e result out out' notes notes' → result ≡ status.ReadFault
     → Rose (state old).faults (state new).faults ⊎ IsSomeAnd (state old).held (λ files. status_of (over files (plan_of asked)) ≡ status.ReadFault)
 leaves_read_fault state gave tells asked old new e result out out' notes notes' reached (inr (s, w)) is = cc
 leaves_read_fault state gave tells asked old new e result out out' notes notes' (inr m) (inl (s, w)) is = let same = s ∙ ap status_of m in cc
 leaves_read_fault state gave tells asked old new e result out out' notes notes' (inl walk) (inl (s, w)) is =
     read_at state gave tells (state old).held asked old new e refl walk (sym s ∙ is)
 
-pub leaves_write_fault : {L : Type 0} (state : L → LibraryState) (gave : Giving L) (asked : Option Asked) (old new : L) (e : Ended) (result : Status) (out out' notes notes' : SinkState)
-    → Reached state gave asked old new e → Leaves e result out out' notes notes' → result ≡ status.WriteFault → WriteRose out out' notes notes'
-leaves_write_fault state gave asked old new e result out out' notes notes' reached (inr (s, w)) is = broke_rose (text_of e) (note_of e) out out' notes notes' w
-leaves_write_fault state gave asked old new e result out out' notes notes' reached (inl (s, w)) is = absurd (never_write_fault state gave asked old new e reached (sym s ∙ is))
+pub leaves_write_fault : {L : Type 0} (gave : Giving L) (asked : Option Asked) (old new : L) (e : Ended) (result : Status) (out out' notes notes' : SinkState)
+    → Reached gave asked old new e → Leaves e result out out' notes notes' → result ≡ status.WriteFault → WriteRose out out' notes notes'
+leaves_write_fault gave asked old new e result out out' notes notes' reached (inr (s, w)) is = broke_rose (text_of e) (note_of e) out out' notes notes' w
+leaves_write_fault gave asked old new e result out out' notes notes' reached (inl (s, w)) is = absurd (never_write_fault gave asked old new e reached (sym s ∙ is))
+
+pub leaves_no_server : {L : Type 0} (gave : Giving L) (asked : Option Asked) (old new : L) (e : Ended) (result : Status) (out out' notes notes' : SinkState)
+    → Reached gave asked old new e → Leaves e result out out' notes notes' → (result ≢ status.NoThread) × (result ≢ status.DoorFault)
+leaves_no_server gave asked old new e result out out' notes notes' reached (inr (s, w)) = (λ is. cc, λ is. cc)
+leaves_no_server gave asked old new e result out out' notes notes' (inr m) (inl (s, w)) =
+    let same = s ∙ ap status_of m in (λ is. cc, λ is. cc)
+leaves_no_server gave None old new e result out out' notes notes' (inl walk) (inl (s, w)) =
+    let same = s ∙ ap status_of walk.0 in (λ is. cc, λ is. cc)
+leaves_no_server gave (Some asked) old new e result out out' notes notes' (inl walk) (inl (s, w)) =
+    elim (walk_of_files gave (plan_of (Some asked)) old new e (plan_steady asked) walk) [
+      | inl own ↦ (λ is. absurd (subst IsOfFiles (sym s ∙ is) own), λ is. absurd (subst IsOfFiles (sym s ∙ is) own))
+      | inr read ↦ let same = s ∙ read in (λ is. cc, λ is. cc)
+    ]

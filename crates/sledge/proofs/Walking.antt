@@ -2,35 +2,35 @@
 use Rattle.std.proofs.Common.{◌≡◌, ◌⊎◌, inl, inr, ℕ, ◌+◌, ◌≤◌, List, take, Option, None, Some, refl, sym, ap, subst, ◌∙◌, arith}
 use Rattle.std.specs.Option.{option_map}
 use Rattle.outside.specs.Faults.{Rose}
-use Rattle.outside.specs.Library.{Files, IsTold, LibraryState, Tells}
+use Rattle.outside.specs.Library.{Fails, Fetched, Files, Gives, IsTold, LibraryState, Tells}
 use Rattle.sledge.specs.Endings.{Due, Ended, due, not_read, status_of}
 use Rattle.sledge.specs.Plans.{Comes, Ends, Plan, Reads, Walks, over}
 use Rattle.sledge.specs.declared.status.Status.{Status}
 use Rattle.sledge.specs.declared.status.Status.TheVariants as status
 
--- what a read gave, as a relation of a library
+-- what reads came to, as a relation of a library
 abbrev pub Giving : Type 0 → Type 1
-Giving L = L → L → List ℕ → ℕ → Option (List ℕ) → Type 0
+Giving L = L → L → List ℕ → ℕ → Fetched → Type 0
 
 -- the law of libraries: what was given is what is held
 abbrev pub Lawful : {L : Type 0} → (L → LibraryState) → Giving L → Type 0
-Lawful {L} state gave = (old new : L) (name : List ℕ) (most : ℕ) (answer : Option (List ℕ)) → gave old new name most answer → Tells (state old) (state new) name most answer
+Lawful {L} state gave = (old new : L) (name : List ℕ) (most : ℕ) (fetched : Fetched) → gave old new name most fetched → Tells (state old) (state new) name most fetched
 
 -- no read is left
-pub comes_end : {L : Type 0} (state : L → LibraryState) (gave : Giving L) (e : Ended) (lib : L) (planned : Due) → planned ≡ due e → Comes state gave (Ends e) lib lib planned
-comes_end state gave e lib planned is = record { ending = e; walk = (refl, refl); is_due = is }
+pub comes_end : {L : Type 0} (gave : Giving L) (e : Ended) (lib : L) (planned : Due) → planned ≡ due e → Comes gave (Ends e) lib lib planned
+comes_end gave e lib planned is = record { ending = e; walk = (refl, refl); is_due = is }
 
 -- a read gave this, and the plan goes on
-pub comes_given : {L : Type 0} (state : L → LibraryState) (gave : Giving L) (name : List ℕ) (most : ℕ) (next : Option (List ℕ) → Plan) (answer : Option (List ℕ)) (old between new : L) (planned : Due)
-    → gave old between name most answer → Comes state gave (next answer) between new planned → Comes state gave (Reads name most next) old new planned
-comes_given state gave name most next answer old between new planned given rest =
+pub comes_given : {L : Type 0} (gave : Giving L) (name : List ℕ) (most : ℕ) (next : Option (List ℕ) → Plan) (answer : Option (List ℕ)) (old between new : L) (planned : Due)
+    → gave old between name most (Gives answer) → Comes gave (next answer) between new planned → Comes gave (Reads name most next) old new planned
+comes_given gave name most next answer old between new planned given rest =
     record { ending = rest.ending; walk = inr (between, answer, given, rest.walk); is_due = rest.is_due }
 
 -- a read failed
-pub comes_failed : {L : Type 0} (state : L → LibraryState) (gave : Giving L) (name : List ℕ) (most : ℕ) (next : Option (List ℕ) → Plan) (old new : L) (planned : Due)
-    → Rose (state old).faults (state new).faults → planned ≡ due (not_read name) → Comes state gave (Reads name most next) old new planned
-comes_failed state gave name most next old new planned rose is =
-    record { ending = not_read name; walk = inl (record { ends = refl; rose = rose }); is_due = is }
+pub comes_failed : {L : Type 0} (gave : Giving L) (name : List ℕ) (most : ℕ) (next : Option (List ℕ) → Plan) (old new : L) (planned : Due)
+    → gave old new name most Fails → planned ≡ due (not_read name) → Comes gave (Reads name most next) old new planned
+comes_failed gave name most next old new planned fails is =
+    record { ending = not_read name; walk = inl (fails, refl); is_due = is }
 
 -- What a plan must be for that: a missing file cannot be read, the first bytes of a file that is too long do for all of it,
 -- and behind a file's bytes stand no endings but those with a status of the files' own.
@@ -80,19 +80,28 @@ Failed e old new = (status_of e ≡ status.ReadFault) × Rose old.faults new.fau
 since : (e : Ended) (old between new : LibraryState) → old.faults ≤ between.faults → Failed e between new → Failed e old new
 since e old between new later f = (f.0, rose_since old.faults between.faults new.faults later f.1)
 
+told_fails : (held : Option Files) (name : List ℕ) (most before now : ℕ) → IsTold held name most before now Fails → Rose before now
+told_fails None name most before now rose = rose
+told_fails (Some files) name most before now rose = rose
+
+fails_rose : {L : Type 0} (state : L → LibraryState) (gave : Giving L) → Lawful state gave → (name : List ℕ) (most : ℕ) (old new : L) → gave old new name most Fails → Rose (state old).faults (state new).faults
+fails_rose state gave tells name most old new fails =
+    told_fails (state old).held name most (state old).faults (state new).faults (tells old new name most Fails fails).told
+
 -- a library that tells its files brings a plan to its ending over them, or a read failed
 pub walk_over : {L : Type 0} (state : L → LibraryState) (gave : Giving L) → Lawful state gave → (files : Files) (plan : Plan) (old new : L) (e : Ended)
-    → IsSteady plan → (state old).held ≡ Some files → Walks state gave plan old new e → (e ≡ over files plan) ⊎ Failed e (state old) (state new)
+    → IsSteady plan → (state old).held ≡ Some files → Walks gave plan old new e → (e ≡ over files plan) ⊎ Failed e (state old) (state new)
 walk_over state gave tells files (Ends planned) old new e steady holds walk = inl walk.0
-walk_over state gave tells files (Reads name most next) old new e steady holds (inl fails) = inr (ap status_of fails.ends, fails.rose)
+walk_over state gave tells files (Reads name most next) old new e steady holds (inl fails) =
+    inr (ap status_of fails.1, fails_rose state gave tells name most old new fails.0)
 walk_over state gave tells files (Reads name most next) old new e steady holds (inr (between, None, given, walk)) =
-    let law = tells old between name most None given in
-    let told : option_map (take (most + 1)) (files name) ≡ None = subst (λ held. IsTold held name most (state old).faults (state between).faults None) holds law.told in
-    let ends = subst (λ plan. Walks state gave plan between new e) steady.0 walk in
+    let law = tells old between name most (Gives None) given in
+    let told : option_map (take (most + 1)) (files name) ≡ None = subst (λ held. IsTold held name most (state old).faults (state between).faults (Gives None)) holds law.told in
+    let ends = subst (λ plan. Walks gave plan between new e) steady.0 walk in
     inl (ends.0 ∙ ap (over files) (sym steady.0) ∙ ap (λ file. over files (next file)) (sym (has_none most (files name) told)))
 walk_over state gave tells files (Reads name most next) old new e steady holds (inr (between, Some bytes, given, walk)) =
-    let law = tells old between name most (Some bytes) given in
-    let told : option_map (take (most + 1)) (files name) ≡ Some bytes = subst (λ held. IsTold held name most (state old).faults (state between).faults (Some bytes)) holds law.told in
+    let law = tells old between name most (Gives (Some bytes)) given in
+    let told : option_map (take (most + 1)) (files name) ≡ Some bytes = subst (λ held. IsTold held name most (state old).faults (state between).faults (Gives (Some bytes))) holds law.told in
     elim (walk_over state gave tells files (next (Some bytes)) between new e (steady.2 bytes) (law.same ∙ holds) walk) [
       | inl same ↦ inl (same ∙ ap (over files) (goes_on_whole most next (files name) bytes steady.1 told))
       | inr failed ↦ inr (since e (state old) (state between) (state new) law.later failed)
@@ -100,26 +109,26 @@ walk_over state gave tells files (Reads name most next) old new e steady holds (
 
 -- over a library that tells nothing a plan comes to a read fault only where a read failed
 pub walk_untold : {L : Type 0} (state : L → LibraryState) (gave : Giving L) → Lawful state gave → (plan : Plan) (old new : L) (e : Ended)
-    → IsSteady plan → (state old).held ≡ None → Walks state gave plan old new e → status_of e ≡ status.ReadFault → Rose (state old).faults (state new).faults
+    → IsSteady plan → (state old).held ≡ None → Walks gave plan old new e → status_of e ≡ status.ReadFault → Rose (state old).faults (state new).faults
 walk_untold state gave tells (Ends planned) old new e steady holds walk is =
     absurd (subst IsOfFiles (sym (ap status_of walk.0) ∙ is) steady)
-walk_untold state gave tells (Reads name most next) old new e steady holds (inl fails) is = fails.rose
+walk_untold state gave tells (Reads name most next) old new e steady holds (inl fails) is = fails_rose state gave tells name most old new fails.0
 walk_untold state gave tells (Reads name most next) old new e steady holds (inr (between, None, given, walk)) is =
-    let law = tells old between name most None given in
-    let rose : Rose (state old).faults (state between).faults = subst (λ held. IsTold held name most (state old).faults (state between).faults None) holds law.told in
-    let ends = subst (λ plan. Walks state gave plan between new e) steady.0 walk in
+    let law = tells old between name most (Gives None) given in
+    let rose : Rose (state old).faults (state between).faults = subst (λ held. IsTold held name most (state old).faults (state between).faults (Gives None)) holds law.told in
+    let ends = subst (λ plan. Walks gave plan between new e) steady.0 walk in
     rose_until (state old).faults (state between).faults (state new).faults (ap (λ lib. (state lib).faults) (sym ends.1)) rose
 walk_untold state gave tells (Reads name most next) old new e steady holds (inr (between, Some bytes, given, walk)) is =
-    let law = tells old between name most (Some bytes) given in
+    let law = tells old between name most (Gives (Some bytes)) given in
     rose_since (state old).faults (state between).faults (state new).faults law.later
     (walk_untold state gave tells (next (Some bytes)) between new e (steady.2 bytes) (law.same ∙ holds) walk is)
 
 -- a plan comes to no status but those of files, and a read fault
-pub walk_of_files : {L : Type 0} (state : L → LibraryState) (gave : Giving L) (plan : Plan) (old new : L) (e : Ended)
-    → IsSteady plan → Walks state gave plan old new e → IsOfFiles (status_of e) ⊎ (status_of e ≡ status.ReadFault)
-walk_of_files state gave (Ends planned) old new e steady walk = inl (subst IsOfFiles (ap status_of (sym walk.0)) steady)
-walk_of_files state gave (Reads name most next) old new e steady (inl fails) = inr (ap status_of fails.ends)
-walk_of_files state gave (Reads name most next) old new e steady (inr (between, None, given, walk)) =
-    let ends = subst (λ plan. Walks state gave plan between new e) steady.0 walk in inr (ap status_of ends.0)
-walk_of_files state gave (Reads name most next) old new e steady (inr (between, Some bytes, given, walk)) =
-    walk_of_files state gave (next (Some bytes)) between new e (steady.2 bytes) walk
+pub walk_of_files : {L : Type 0} (gave : Giving L) (plan : Plan) (old new : L) (e : Ended)
+    → IsSteady plan → Walks gave plan old new e → IsOfFiles (status_of e) ⊎ (status_of e ≡ status.ReadFault)
+walk_of_files gave (Ends planned) old new e steady walk = inl (subst IsOfFiles (ap status_of (sym walk.0)) steady)
+walk_of_files gave (Reads name most next) old new e steady (inl fails) = inr (ap status_of fails.1)
+walk_of_files gave (Reads name most next) old new e steady (inr (between, None, given, walk)) =
+    let ends = subst (λ plan. Walks gave plan between new e) steady.0 walk in inr (ap status_of ends.0)
+walk_of_files gave (Reads name most next) old new e steady (inr (between, Some bytes, given, walk)) =
+    walk_of_files gave (next (Some bytes)) between new e (steady.2 bytes) walk

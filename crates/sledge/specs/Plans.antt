@@ -1,7 +1,6 @@
 -- What a command reads, in which order, and how it ends by what it has read.
 use Rattle.std.specs.Prelude.{◌≡◌, ◌⊎◌, ℕ, suc, nat_lt, if◌then◌else◌, List, [], ◌∷◌, length, Option, None, Some}
-use Rattle.outside.specs.Faults.{Rose}
-use Rattle.outside.specs.Library.{Files, LibraryState}
+use Rattle.outside.specs.Library.{Fails, Fetched, Files, Gives}
 use Rattle.sledge.specs.Endings.{Due, Ended, due, not_read}
 
 -- a plan: an ending; or the name of a file, the most bytes that it may have, and what follows for its bytes or for none
@@ -48,22 +47,17 @@ checked_files number (name ∷ names) most check next =
 
 -- A plan that is carried out by reads.
 
--- the file could not be read, and the library counted that
-pub record FailsToRead (name : List ℕ) (old new : LibraryState) (e : Ended) : Type 0 where
-  pub ends : e ≡ not_read name
-  pub rose : Rose old.faults new.faults
-
 -- the reads of the plan were made, in its order and no others, from one state of a library to another, and it ended so by what they gave;
--- or the last of them failed and was counted
+-- or the last of them failed
 abbrev pub Walks
-    : {L : Type 0} → (state : L → LibraryState) → (gave : L → L → List ℕ → ℕ → Option (List ℕ) → Type 0) → Plan → (old new : L) → Ended → Type 0
-Walks state gave (Ends planned) old new e = (e ≡ planned) × (new ≡ old)
-Walks {L} state gave (Reads name most next) old new e =
-    FailsToRead name (state old) (state new) e
-    ⊎ ((between : L) × (answer : Option (List ℕ)) × gave old between name most answer × Walks state gave (next answer) between new e)
+    : {L : Type 0} → (gave : L → L → List ℕ → ℕ → Fetched → Type 0) → Plan → (old new : L) → Ended → Type 0
+Walks gave (Ends planned) old new e = (e ≡ planned) × (new ≡ old)
+Walks {L} gave (Reads name most next) old new e =
+    (gave old new name most Fails × (e ≡ not_read name))
+    ⊎ ((between : L) × (answer : Option (List ℕ)) × gave old between name most (Gives answer) × Walks gave (next answer) between new e)
 
 -- what is due by such reads
-pub record Comes {L : Type 0} (state : L → LibraryState) (gave : L → L → List ℕ → ℕ → Option (List ℕ) → Type 0) (plan : Plan) (old new : L) (planned : Due) : Type 0 where
+pub record Comes {L : Type 0} (gave : L → L → List ℕ → ℕ → Fetched → Type 0) (plan : Plan) (old new : L) (planned : Due) : Type 0 where
   pub ending : Ended
-  pub walk : Walks state gave plan old new ending
+  pub walk : Walks gave plan old new ending
   pub is_due : planned ≡ due ending

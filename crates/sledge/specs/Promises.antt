@@ -44,3 +44,7 @@ pub record AnswersInvoke (words : InvokeWords) (files : Files) (e : Ended) : Typ
   pub fits : length body ≤ body_limit
   pub ran : execution_of ops words.budget ≡ Some run
   pub ends : e ≡ answered run
+
+-- the files of an `invoke` are held: the module is this one, and the body too
+abbrev pub HoldsBoth : InvokeWords → Files → (file body : List ℕ) → Type 0
+HoldsBoth words files file body = (files words.module_name ≡ Some file) × (files words.body_name ≡ Some body)

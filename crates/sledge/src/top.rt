@@ -39,7 +39,7 @@ pub fn run<R: Threads + Sync, L: Library, S: Sink, N: Sink, G: Gate>(
     // There is one ending, by the plan of the words and the reads that were made in this call,
     // and the status and the outputs are its.
     ensures ended { (e : Ended)
-        × (Walks L.state L.gave (plan_for (map string_bytes words.now)) lib.old lib.new e
+        × (Walks L.gave (plan_for (map string_bytes words.now)) lib.old lib.new e
         ⊎ (e ≡ out_of_memory))
         × Leaves e result (S.state out.old) (S.state out.new) (N.state notes.old) (N.state notes.new) }
 
@@ -66,6 +66,7 @@ pub fn run<R: Threads + Sync, L: Library, S: Sink, N: Sink, G: Gate>(
         status_of (ending (map string_bytes words.now) files) ≡ Status.ReadFault) }
     ensures write_fault { result ≡ Status.WriteFault
         → WriteRose (S.state out.old) (S.state out.new) (N.state notes.old) (N.state notes.new) }
+    ensures no_server { (result ≢ Status.NoThread) × (result ≢ Status.DoorFault) }
 
     ensures same_files { (L.state lib.new).held ≡ (L.state lib.old).held }
     ensures later { (L.state lib.old).faults ≤ (L.state lib.new).faults }
@@ -82,7 +83,7 @@ fn carry_out<L: Library, S: Sink, N: Sink>(
     notes: &mut N,
 ) -> Status
     ensures ended { (e : Ended)
-        × (Walks L.state L.gave (plan_for (map string_bytes words.now)) lib.old lib.new e
+        × (Walks L.gave (plan_for (map string_bytes words.now)) lib.old lib.new e
         ⊎ (e ≡ out_of_memory))
         × Leaves e result (S.state out.old) (S.state out.new) (N.state notes.old) (N.state notes.new) }
     ensures same_files { (L.state lib.new).held ≡ (L.state lib.old).held }

@@ -1,5 +1,5 @@
 use Rattle.std.proofs.Common.{map, refl, string_bytes}
-use Rattle.sledge.proofs.Clauses.{leaves_done, leaves_exactly, leaves_read_fault, leaves_refused, leaves_usage, leaves_write_fault}
+use Rattle.sledge.proofs.Clauses.{leaves_done, leaves_exactly, leaves_no_server, leaves_read_fault, leaves_refused, leaves_usage, leaves_write_fault}
 use Rattle.sledge.specs.CommandLine.{command_of}
 use Rattle.sledge.proofs.top.run.Goals as goal
 
@@ -18,7 +18,7 @@ returns-clause-refused g c = λ other whole. leaves_refused c.carry_out.ensures.
 
 pub returns-clause-usage : goal.returns-clause-usage
 returns-clause-usage g c =
-    λ is. leaves_usage g.L.Library.state g.L.Library.gave (command_of (map string_bytes c.args.words.now)) _ _ c.carry_out.ensures.ended.0 _ _ _ _ _
+    λ is. leaves_usage g.L.Library.gave (command_of (map string_bytes c.args.words.now)) _ _ c.carry_out.ensures.ended.0 _ _ _ _ _
     c.carry_out.ensures.ended.1 c.carry_out.ensures.ended.2 is
 
 pub returns-clause-read_fault : goal.returns-clause-read_fault
@@ -28,5 +28,9 @@ returns-clause-read_fault g c =
 
 pub returns-clause-write_fault : goal.returns-clause-write_fault
 returns-clause-write_fault g c =
-    λ is. leaves_write_fault g.L.Library.state g.L.Library.gave (command_of (map string_bytes c.args.words.now)) _ _ c.carry_out.ensures.ended.0 _ _ _ _ _
+    λ is. leaves_write_fault g.L.Library.gave (command_of (map string_bytes c.args.words.now)) _ _ c.carry_out.ensures.ended.0 _ _ _ _ _
     c.carry_out.ensures.ended.1 c.carry_out.ensures.ended.2 is
+
+pub returns-clause-no_server : goal.returns-clause-no_server
+returns-clause-no_server g c =
+    leaves_no_server g.L.Library.gave (command_of (map string_bytes c.args.words.now)) _ _ c.carry_out.ensures.ended.0 _ _ _ _ _ c.carry_out.ensures.ended.1 c.carry_out.ensures.ended.2

@@ -1,0 +1,125 @@
+-- How an `invoke` ends, by what its files spell.
+use Rattle.std.proofs.Common.{◌≡◌, ◌≢◌, ℕ, ◌<◌, ◌≤◌, Bool, true, false, if◌then◌else◌, nat_lt, List, [], length, Option, None, Some, inl, inr, refl, sym, ap, ◌∙◌}
+use Rattle.outside.specs.Library.{Files}
+use Rattle.wasm_ops.specs.declared.faults.Fault.{Fault}
+use Rattle.wasm_ops.specs.declared.modules.Module.{Module}
+use Rattle.wasm_ops.specs.declared.operators.Op.{Op}
+use Rattle.wasm_reader.proofs.ModuleLaws.{either}
+use Rattle.wasm_reader.specs.Modules.{RefusesModule, SpellsModule}
+use Rattle.sledge.proofs.Built.{built_is, is_not_built}
+use Rattle.sledge.proofs.Checks.{check_built, check_long, check_not_built, check_refused, check_short, fits_limit}
+use Rattle.sledge.proofs.Safety.{typed_never_stuck}
+use Rattle.sledge.specs.BuiltModule.{IsBuilt, IsNotBuilt, built_of}
+use Rattle.sledge.specs.CommandLine.{Asked, AsksInvoke, InvokeWords, command_of}
+use Rattle.sledge.specs.Commands.{body_limit, body_plan, check_body, check_module, ending, invoke_plan, not_built, plan_of, ran, run_on}
+use Rattle.sledge.specs.Endings.{Ended, module_fault, not_read, recording_fault, status_of}
+use Rattle.sledge.specs.Execution.{Execution, Fell, Outcome, Spent, Stuck, Trapped, concluded, run}
+use Rattle.sledge.specs.Plans.{Ends, Goes, Step, Stops, found, go_on, over}
+use Rattle.sledge.specs.Promises.{AnswersInvoke, HoldsBoth}
+use Rattle.sledge.specs.declared.status.Status.TheVariants as status
+
+-- these words ask for this `invoke`, so their ending is its
+asks : (words : List (List ℕ)) (files : Files) (i : InvokeWords) → command_of words ≡ Some (AsksInvoke i) → ending words files ≡ over files (invoke_plan i)
+asks words files i is = ap (λ (a : Option Asked). over files (plan_of a)) is
+
+-- the ending from a module's file on
+from_file : (files : Files) (i : InvokeWords) (file : Option (List ℕ)) → files i.module_name ≡ file → over files (invoke_plan i) ≡ over files (found i.module_name check_module (body_plan i) file)
+from_file files i file m = ap (λ (f : Option (List ℕ)). over files (found i.module_name check_module (body_plan i) f)) m
+
+-- the ending from the check of a module on
+from_check : (files : Files) (i : InvokeWords) (file : List ℕ) (step : Step (List Op)) → files i.module_name ≡ Some file → check_module file ≡ step → over files (invoke_plan i) ≡ over files (go_on (body_plan i) step)
+from_check files i file step m c = from_file files i (Some file) m ∙ ap (λ s. over files (go_on (body_plan i) s)) c
+
+-- the ending from a body's file on
+from_body : (files : Files) (i : InvokeWords) (ops : List Op) (body : Option (List ℕ)) → files i.body_name ≡ body
+    → over files (body_plan i ops) ≡ over files (found i.body_name check_body (λ b. Ends (run_on ops i.budget b)) body)
+from_body files i ops body b = ap (λ (f : Option (List ℕ)). over files (found i.body_name check_body (λ b. Ends (run_on ops i.budget b)) f)) b
+
+-- the ending from the check of a body on
+from_body_check : (files : Files) (i : InvokeWords) (ops : List Op) (body : List ℕ) (step : Step (List ℕ)) → files i.body_name ≡ Some body → check_body body ≡ step
+    → over files (body_plan i ops) ≡ over files (go_on (λ b. Ends (run_on ops i.budget b)) step)
+from_body_check files i ops body step b c =
+    from_body files i ops (Some body) b ∙ ap (λ s. over files (go_on (λ b. Ends (run_on ops i.budget b)) s)) c
+
+pub module_missing : (words : List (List ℕ)) (files : Files) (i : InvokeWords) → command_of words ≡ Some (AsksInvoke i) → files i.module_name ≡ None → ending words files ≡ not_read i.module_name
+module_missing words files i is m = asks words files i is ∙ from_file files i None m
+
+pub module_refused : (words : List (List ℕ)) (files : Files) (i : InvokeWords) (file : List ℕ) (fault : Fault) → command_of words ≡ Some (AsksInvoke i) → files i.module_name ≡ Some file → RefusesModule file fault
+    → ending words files ≡ module_fault 0 fault.number fault.place
+module_refused words files i file fault is m r = asks words files i is ∙ from_check files i file _ m (check_refused file fault r)
+
+pub module_not_built : (words : List (List ℕ)) (files : Files) (i : InvokeWords) (file : List ℕ) → command_of words ≡ Some (AsksInvoke i) → files i.module_name ≡ Some file → IsNotBuilt file
+    → ending words files ≡ not_built
+module_not_built words files i file is m n = asks words files i is ∙ from_check files i file _ m (check_not_built file n)
+
+built : (words : List (List ℕ)) (files : Files) (i : InvokeWords) (file : List ℕ) (ops : List Op) → command_of words ≡ Some (AsksInvoke i) → files i.module_name ≡ Some file → IsBuilt file ops
+    → ending words files ≡ over files (body_plan i ops)
+built words files i file ops is m b = asks words files i is ∙ from_check files i file _ m (check_built file ops b)
+
+pub body_missing : (words : List (List ℕ)) (files : Files) (i : InvokeWords) (file : List ℕ) (ops : List Op) → command_of words ≡ Some (AsksInvoke i) → files i.module_name ≡ Some file → IsBuilt file ops
+    → files i.body_name ≡ None → ending words files ≡ not_read i.body_name
+body_missing words files i file ops is m b none = built words files i file ops is m b ∙ from_body files i ops None none
+
+pub body_too_long : (words : List (List ℕ)) (files : Files) (i : InvokeWords) (file body : List ℕ) (ops : List Op) → command_of words ≡ Some (AsksInvoke i) → HoldsBoth i files file body → IsBuilt file ops
+    → body_limit < length body → ending words files ≡ recording_fault 76
+body_too_long words files i file body ops is holds b long = built words files i file ops is holds.0 b ∙ from_body_check files i ops body _ holds.1 (check_long body long)
+
+-- a run that is not stuck has a verdict
+has_verdict : (o : Outcome) (units : ℕ) → o ≢ Stuck → (x : Execution) × (concluded o units ≡ Some x)
+has_verdict Fell units h = (_, refl)
+has_verdict (Trapped why) units h = (_, refl)
+has_verdict Spent units h = (_, refl)
+has_verdict Stuck units h = absurd (h refl)
+
+pub complete : (words : List (List ℕ)) (files : Files) (i : InvokeWords) (file body : List ℕ) (ops : List Op) → command_of words ≡ Some (AsksInvoke i) → HoldsBoth i files file body → IsBuilt file ops
+    → length body ≤ body_limit → AnswersInvoke i files (ending words files)
+complete words files i file body ops is holds b fits =
+    let verdict = has_verdict (run ops [] i.budget).outcome _ (typed_never_stuck ops i.budget b.built.typed) in
+    record {
+      file = file;
+      ops = ops;
+      body = body;
+      run = verdict.0;
+      holds_module = holds.0;
+      built = b;
+      holds_body = holds.1;
+      fits = fits;
+      ran = verdict.1;
+      ends = built words files i file ops is holds.0 b ∙ from_body_check files i ops body _ holds.1 (check_short body fits) ∙ ap ran verdict.1;
+    }
+
+-- Each `invoke` over files is one of these.
+
+not_done : (e f : Ended) → e ≡ f → status_of f ≢ status.Ok → status_of e ≡ status.Ok → ⊥
+not_done e f same other done = other (sym (ap status_of same) ∙ done)
+
+with_body : (words : List (List ℕ)) (files : Files) (i : InvokeWords) (file : List ℕ) (ops : List Op) (body : Option (List ℕ)) → command_of words ≡ Some (AsksInvoke i) → files i.module_name ≡ Some file → IsBuilt file ops
+    → files i.body_name ≡ body → status_of (ending words files) ≡ status.Ok → AnswersInvoke i files (ending words files)
+with_body words files i file ops None is m b h done = absurd (not_done _ _ (body_missing words files i file ops is m b h) (λ bad. cc) done)
+with_body words files i file ops (Some body) is m b h done = at (nat_lt body_limit (length body)) refl
+  where
+    at : (long : Bool) → nat_lt body_limit (length body) ≡ long → AnswersInvoke i files (ending words files)
+    at true e = absurd (not_done _ _ (built words files i file ops is m b ∙ from_body_check files i ops body _ h (ap (λ t. if t then Stops (recording_fault 76) else Goes body) e)) (λ bad. cc) done)
+    at false e = complete words files i file body ops is (m, h) b (fits_limit body_limit (length body) e)
+
+with_module : (words : List (List ℕ)) (files : Files) (i : InvokeWords) (file : List ℕ) (parts : Module) → command_of words ≡ Some (AsksInvoke i) → files i.module_name ≡ Some file → SpellsModule file parts
+    → status_of (ending words files) ≡ status.Ok → AnswersInvoke i files (ending words files)
+with_module words files i file parts is m s done = at (built_of parts) refl
+  where
+    at : (ops : Option (List Op)) → built_of parts ≡ ops → AnswersInvoke i files (ending words files)
+    at None e =
+        absurd (not_done _ _ (module_not_built words files i file is m (record { parts = parts; spelt = s; other = is_not_built parts e })) (λ bad. cc) done)
+    at (Some ops) e =
+        with_body words files i file ops (files i.body_name) is m (record { parts = parts; spelt = s; built = built_is parts ops e }) refl done
+
+with_file : (words : List (List ℕ)) (files : Files) (i : InvokeWords) (file : Option (List ℕ)) → command_of words ≡ Some (AsksInvoke i) → files i.module_name ≡ file
+    → status_of (ending words files) ≡ status.Ok → AnswersInvoke i files (ending words files)
+with_file words files i None is m done = absurd (not_done _ _ (module_missing words files i is m) (λ bad. cc) done)
+with_file words files i (Some file) is m done =
+    elim (either file) [
+      | inl spelt ↦ with_module words files i file spelt.0 is m spelt.1 done
+      | inr refused ↦ absurd (not_done _ _ (module_refused words files i file refused.0 is m refused.1) (λ bad. cc) done)
+    ]
+
+pub done_is_answered : (words : List (List ℕ)) (files : Files) (i : InvokeWords) → command_of words ≡ Some (AsksInvoke i) → status_of (ending words files) ≡ status.Ok → AnswersInvoke i files (ending words files)
+done_is_answered words files i is done = with_file words files i (files i.module_name) is refl done

@@ -1,0 +1,23 @@
+use Rattle.sledge.proofs.InvokeLaws.{body_missing, body_too_long, complete, done_is_answered, module_missing, module_not_built, module_refused}
+use Rattle.sledge.proofs.laws.invoke_endings.Goals as goal
+
+pub returns-clause-module_missing : goal.returns-clause-module_missing
+returns-clause-module_missing c = module_missing
+
+pub returns-clause-module_refused : goal.returns-clause-module_refused
+returns-clause-module_refused c = module_refused
+
+pub returns-clause-not_built : goal.returns-clause-not_built
+returns-clause-not_built c = module_not_built
+
+pub returns-clause-body_missing : goal.returns-clause-body_missing
+returns-clause-body_missing c = body_missing
+
+pub returns-clause-body_too_long : goal.returns-clause-body_too_long
+returns-clause-body_too_long c = body_too_long
+
+pub returns-clause-complete : goal.returns-clause-complete
+returns-clause-complete c = complete
+
+pub returns-clause-answered : goal.returns-clause-answered
+returns-clause-answered c = done_is_answered

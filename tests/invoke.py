@@ -29,21 +29,8 @@ def module(body, types="01 04 01 60 00 00"):
 
 FILES = {
     "m0": module(""),
-    "m1": module("00"),
-    "m2": module("03 40 0C 00 0B"),
-    "nops": module("01 01 01"),
-    "div": module("41 07 41 00 6E 1A"),
-    "padded": module("", types="01 05 81 00 60 00 00"),
-    "custom": module("", types="00 02 01 61 01 04 01 60 00 00"),
-    "untyped": module("1A"),
+    "loop": module("03 40 0C 00 0B"),
     "other_version": b"\x00asm\x02\x00\x00\x00",
-    "header": module("")[:8],
-    "cut": module("")[:29],
-    "bodiless": module("")[:30],
-    "spare": module("", types="01 08 81 80 80 80 10 60 00 00"),
-    "long_leb": module("", types="01 09 81 80 80 80 80 00 60 00 00"),
-    "float": module("92"),
-    "float_type": module("", types="01 05 01 60 01 7D 00"),
     "empty": b"",
     "full": bytes(1 << 20),
     "long": bytes((1 << 20) + 1),
@@ -66,47 +53,129 @@ def trap(text):
 # words, exit status, standard output, standard error
 ROWS = [
     ("invoke m0 empty 10", 0, OK, "units 0\n"),
-    ("invoke nops empty 10", 0, OK, "units 3\n"),
-    ("invoke nops empty 2", 0, SPENT, "units 2\n"),
-    ("invoke nops empty 0", 0, SPENT, "units 0\n"),
-    ("invoke m1 empty 10", 0, trap("unreachable"), "units 1\n"),
-    ("invoke div empty 10", 0, trap("integer divide by zero"), "units 3\n"),
-    ("invoke div empty 2", 0, SPENT, "units 2\n"),
-    ("invoke padded empty 10", 0, OK, "units 0\n"),
-    ("invoke custom empty 10", 0, OK, "units 0\n"),
     ("invoke m0 full 10", 0, OK, "units 0\n"),
-    ("invoke m0 empty 1099511627776", 0, OK, "units 0\n"),
-    ("invoke m0 empty 00000000000000000000", 0, OK, "units 0\n"),
-    ("invoke m2 empty 5", 5, b"", "module 90 0 0\n"),
-    ("invoke untyped empty 5", 5, b"", "module 90 0 0\n"),
-    ("invoke header empty 5", 5, b"", "module 90 0 0\n"),
-    ("invoke other_version empty 5", 5, b"", "module 16 0 4\n"),
-    ("invoke cut empty 5", 5, b"", "module 1 0 29\n"),
-    ("invoke bodiless empty 5", 5, b"", "module 20 0 30\n"),
-    ("invoke spare empty 5", 5, b"", "module 3 0 10\n"),
-    ("invoke long_leb empty 5", 5, b"", "module 2 0 10\n"),
-    ("invoke float empty 5", 5, b"", "module 5 0 35\n"),
-    ("invoke float_type empty 5", 5, b"", "module 7 0 13\n"),
-    ("invoke empty empty 5", 5, b"", "module 1 0 0\n"),
-    ("invoke huge empty 5", 5, b"", "module 21 0 0\n"),
-    ("invoke cut nofile 5", 5, b"", "module 1 0 29\n"),
-    ("invoke m2 nofile 5", 5, b"", "module 90 0 0\n"),
     ("invoke m0 long 5", 6, b"", "recording 76\n"),
+    ("invoke huge empty 5", 5, b"", "module 21 0 0\n"),
+    ("invoke empty empty 5", 5, b"", "module 1 0 0\n"),
+    ("invoke other_version empty 5", 5, b"", "module 16 0 4\n"),
+    # The module is refused before the body is looked for.
+    ("invoke empty nofile 5", 5, b"", "module 1 0 0\n"),
+    ("invoke loop nofile 5", 5, b"", "module 90 0 0\n"),
     ("invoke nofile empty 10", 3, b"", "read nofile\n"),
     ("invoke m0 nofile 10", 3, b"", "read nofile\n"),
     ("invoke . empty 10", 3, b"", "read .\n"),
     ("invoke  empty 10", 3, b"", "read \n"),
-    ("invoke m0 empty 1099511627777", 2, b"", "usage\n"),
-    ("invoke m0 empty 000000000000000000000", 2, b"", "usage\n"),
-    ("invoke m0 empty -1", 2, b"", "usage\n"),
-    ("invoke m0 empty +1", 2, b"", "usage\n"),
-    ("invoke m0 empty 1x", 2, b"", "usage\n"),
-    ("invoke m0 empty ", 2, b"", "usage\n"),
     ("invoke m0 empty", 2, b"", "usage\n"),
     ("invoke m0 empty 10 10", 2, b"", "usage\n"),
     ("replay a", 2, b"", "usage\n"),
+    ("check m0", 2, b"", "usage\n"),
     ("--version", 0, b"Cavundel 0.1.0\n", ""),
 ]
+
+# the budget of an `invoke` of the module that does nothing, and whether it is one
+BUDGETS = [
+    ("0", True),
+    ("1099511627776", True),
+    ("00000000000000000000", True),
+    ("00000001099511627776", True),
+    ("1099511627777", False),
+    ("18446744073709551616", False),
+    ("99999999999999999999", False),
+    ("000000000000000000000", False),
+    ("", False),
+    ("-1", False),
+    ("+1", False),
+    ("1x", False),
+]
+
+BY_ZERO = "41 07 41 00 6E 1A"
+
+# operators in hexadecimal, a budget, the reply, the units
+RUNS = [
+    ("", 10, OK, 0),
+    ("01 01 01", 10, OK, 3),
+    ("01 01 01", 3, OK, 3),
+    ("01 01 01", 2, SPENT, 2),
+    ("01 01 01", 0, SPENT, 0),
+    ("00", 10, trap("unreachable"), 1),
+    ("00", 0, SPENT, 0),
+    (BY_ZERO, 10, trap("integer divide by zero"), 3),
+    (BY_ZERO, 3, trap("integer divide by zero"), 3),
+    (BY_ZERO, 2, SPENT, 2),
+    # 7 / 2 and 7 / -1 do not trap.
+    ("41 07 41 02 6E 1A", 10, OK, 4),
+    ("41 07 41 7F 6E 1A", 10, OK, 4),
+    # 5 / (-1 + 1): the sum wraps to 0. The -1 is spelt with all five bytes.
+    ("41 05 41 FF FF FF FF 7F 41 81 80 00 6A 6E 1A", 10, trap("integer divide by zero"), 5),
+    # Behind unreachable a missing operand is of any type.
+    ("00 1A 6A 1A", 10, trap("unreachable"), 1),
+]
+
+# operators whose module is refused with this number at this place
+REFUSED_BODIES = [
+    # A loop, an operator on 64-bit integers.
+    ("03 40 0C 00 0B", 90, 0),
+    ("42 00 1A", 90, 0),
+    # A missing operand, one operand for two, and operands left over.
+    ("1A", 90, 0),
+    ("41 01 6A 1A", 90, 0),
+    ("41 01", 90, 0),
+    ("00 41 01", 90, 0),
+    # A float operator, a float constant, and a constant with spare bits that are no copies of the sign.
+    ("92", 5, 35),
+    ("43 00 00 00 00 1A", 5, 35),
+    ("41 80 80 80 80 70 1A", 3, 36),
+]
+
+# a type section, and the number and place where its module is refused, if it is
+TYPE_SECTIONS = [
+    # A count with spare bits, too long, and padded.
+    ("01 08 81 80 80 80 10 60 00 00", (3, 10)),
+    ("01 09 81 80 80 80 80 00 60 00 00", (2, 10)),
+    ("01 05 81 00 60 00 00", None),
+    # A parameter of a float type.
+    ("01 05 01 60 01 7D 00", (7, 13)),
+    # A custom section before the types, and no imports behind them.
+    ("00 02 01 61 01 04 01 60 00 00", None),
+    ("01 04 01 60 00 00 02 01 00", None),
+    # A second type.
+    ("01 07 02 60 00 00 60 00 00", (90, 0)),
+]
+
+
+def of_module(fault):
+    """What an `invoke` of a module leaves that does nothing, or is refused with this number at this place."""
+    if fault is None:
+        return 0, OK, b"units 0\n"
+    return 5, b"", f"module {fault[0]} 0 {fault[1]}\n".encode()
+
+
+def cut_fault(size):
+    """The refusal of the least module cut to this size."""
+    if size in (8, 14):
+        return 90, 0  # whole sections, which have no function yet
+    if size in (18, 30):
+        return 20, size  # the function has no body
+    return 1, size
+
+
+def cases():
+    """Each run with its words, the bytes of its module's file where it has one of its own, and what it leaves."""
+    for line, status, out, notes in ROWS:
+        yield line.split(" "), None, (status, out, notes.encode())
+    for budget, good in BUDGETS:
+        yield ["invoke", "m0", "empty", budget], None, of_module(None) if good else (2, b"", b"usage\n")
+    for ops, budget, out, units in RUNS:
+        yield ["invoke", "m", "empty", str(budget)], module(ops), (0, out, f"units {units}\n".encode())
+    for ops, number, place in REFUSED_BODIES:
+        yield ["invoke", "m", "empty", "10"], module(ops), of_module((number, place))
+    for types, fault in TYPE_SECTIONS:
+        yield ["invoke", "m", "empty", "10"], module("", types=types), of_module(fault)
+    whole = module("")
+    for size in range(len(whole)):
+        yield ["invoke", "m", "empty", "10"], whole[:size], of_module(cut_fault(size))
+    yield [], None, (2, b"", b"usage\n")
+    yield [b"invoke", b"m0", b"\xff", b"1"], None, (2, b"", b"usage\n")
 
 
 def check(name, wanted, got):
@@ -121,21 +190,40 @@ def run(words, folder, out=subprocess.PIPE):
     return done.returncode, done.stdout, done.stderr
 
 
+def help_is_whole(shown):
+    """It shows each shape and each exit status, and fits a terminal of 80 columns."""
+    lines = shown.decode().splitlines()
+    shapes = ["  sledge invoke MODULE BODY BUDGET", "  sledge --help", "  sledge --version"]
+    statuses = [line.split()[0] for line in lines if line[:3].strip().isdigit() and line[:2] == "  "]
+    return (
+        lines[0] == "usage:"
+        and all(shape in lines for shape in shapes)
+        and statuses == ["0", "2", "3", "4", "5", "6", "7", "8", "9", "10"]
+        and any("docs/FORMATS.md" in line for line in lines)
+        and all(len(line) <= 80 for line in lines)
+    )
+
+
 def main():
     subprocess.run([PROGRAM, "--version"], stdout=subprocess.DEVNULL, check=True)
     failed = 0
+    runs = 0
     with tempfile.TemporaryDirectory() as folder:
         for name, content in FILES.items():
             with open(os.path.join(folder, name), "wb") as file:
                 file.write(content)
-        for line, status, out, notes in ROWS:
-            failed += check(line, (status, out, notes.encode()), run(line.split(" "), folder))
-        shown = run(["--help"], folder)
-        failed += check("--help", (0, True, b""), (shown[0], shown[1].startswith(b"usage:\n"), shown[2]))
-        failed += check("a word that is no UTF-8", (2, b"", b"usage\n"), run([b"invoke", b"m0", b"\xff", b"1"], folder))
+        for words, own, wanted in cases():
+            if own is not None:
+                with open(os.path.join(folder, "m"), "wb") as file:
+                    file.write(own)
+            runs += 1
+            failed += check(f"{words} {own.hex(' ') if own else ''}", wanted, run(words, folder))
+        status, shown, notes = run(["--help"], folder)
+        failed += check("--help", (0, True, b""), (status, help_is_whole(shown), notes))
         with open("/dev/full", "wb") as full:
             failed += check("an output that is full", (7, None, b""), run(["invoke", "m0", "empty", "10"], folder, full))
-    print(f"{len(ROWS) + 3 - failed} passed, {failed} failed")
+        runs += 2
+    print(f"{runs - failed} passed, {failed} failed")
     return failed != 0
 
 

@@ -73,7 +73,7 @@ impl Write for Drain {
 }
 
 #[test]
-fn reads_a_file_by_its_path(rt: HostRuntime) -> Result<(), Fail> {
+fn reaches_the_files_and_streams_of_the_system(rt: HostRuntime) -> Result<(), Fail> {
     let id = process::id(rt.process());
     let name = format!(in rt.alloc(); "outside_test_{id}")?;
     let path = env::temp_dir(&rt)?.as_path().join(rt.alloc(), name)?;
@@ -100,6 +100,12 @@ fn reads_a_file_by_its_path(rt: HostRuntime) -> Result<(), Fail> {
     let folder_itself = library.read(rt.alloc(), "/", 9).err();
     assert_eq!(rt; folder_itself, Some(Fetch::Failed));
     assert_eq!(rt; library.faults(), 2);
+    let mut out = StdSink::new(rt.stdout());
+    assert_eq!(rt; out.write(b"to standard output\n"), Ok(()));
+    assert_eq!(rt; out.faults(), 0);
+    let mut notes = StdNotes::new(rt.stderr());
+    assert_eq!(rt; notes.write(b"to standard error\n"), Ok(()));
+    assert_eq!(rt; notes.faults(), 0);
     Ok(())
 }
 
@@ -162,14 +168,4 @@ fn writes_all_or_fails(rt: HostRuntime) -> Result<(), Fail> {
         assert_eq!(rt; sink.faults(), faults, "{steps:?}");
     }
     Ok(())
-}
-
-#[test]
-fn writes_to_the_system(rt: HostRuntime) {
-    let mut out = StdSink::new(rt.stdout());
-    assert_eq!(rt; out.write(b"to standard output\n"), Ok(()));
-    assert_eq!(rt; out.faults(), 0);
-    let mut notes = StdNotes::new(rt.stderr());
-    assert_eq!(rt; notes.write(b"to standard error\n"), Ok(()));
-    assert_eq!(rt; notes.faults(), 0);
 }

@@ -1,7 +1,8 @@
 -- A typed body never gets stuck: each operator finds operands of the types that it takes.
 use Rattle.std.proofs.Common.{◌≡◌, ◌≢◌, ℕ, ◌-◌, Bool, true, false, cond, nat_lt, List, [], ◌∷◌, Option, Some, None, Result, Ok, Err, refl, sym, ap, subst, ◌∙◌}
 use Rattle.std.specs.Option.{option_and_then}
-use Rattle.wasm_ops.specs.Arithmetic.{binary_result}
+use Rattle.wasm_ops.specs.declared.operations.Operation.{Operation}
+use Rattle.wasm_ops.specs.Arithmetic.{two_operands}
 use Rattle.wasm_ops.specs.Operations.{operand_of, operation_of, result_of, takes_one}
 use Rattle.wasm_ops.specs.declared.operators.Op.{Op}
 use Rattle.wasm_ops.specs.declared.operators.Op.TheVariants.{Unreachable, Nop, Drop, ConstI32, Binary}
@@ -9,8 +10,8 @@ use Rattle.wasm_ops.specs.declared.traps.Trap.{Trap}
 use Rattle.wasm_ops.specs.declared.traps.Trap.TheVariants as trap
 use Rattle.wasm_ops.specs.declared.types.ValType.{ValType}
 use Rattle.wasm_ops.specs.declared.types.ValType.TheVariants.{I32, I64}
-use Rattle.sledge.specs.Execution.{Value, Int32, Int64, number_of, value_of, Run, run, act, effect, binary_effect, with_numbers, computed, price, Effect, Goes, Traps, Breaks, Stuck}
-use Rattle.sledge.specs.Typing.{IsTyped, OperandTypes, binary_types, fits, laid, pull, pull_from, typed, typed_operator}
+use Rattle.sledge.specs.Execution.{Value, Int32, Int64, number_of, value_of, Run, run, act, effect, binary_effect, operation_effect, with_numbers, computed, price, Effect, Goes, Traps, Breaks, Stuck}
+use Rattle.sledge.specs.Typing.{IsTyped, OperandTypes, binary_types, operation_types, fits, laid, pull, pull_from, typed, typed_operator}
 
 -- what a chain answered was answered by both parts
 chained : {A B : Type 0} (first : Option A) (second : A → Option B) (answer : B) → option_and_then second first ≡ Some answer → (middle : A) × (first ≡ Some middle) × (second middle ≡ Some answer)
@@ -73,35 +74,51 @@ unfolding Fit
 result_safe t (Ok n) under types next e fit = lays (value_of t n ∷ under) _ next e refl (type_of-value t n, fit)
 result_safe t (Err why) under types next e fit = Stops why refl
 
-operands_safe : (op : ℕ) (types : List ValType) (values : List Value) (next : OperandTypes) → takes_one (operation_of op) ≡ false
-    → Some (record { types = result_of (operation_of op) ∷ types; loose = false }) ≡ Some next
-    → Fit (operand_of (operation_of op) ∷ operand_of (operation_of op) ∷ types) values → Safe (binary_effect op values) next
+operands_safe : (o : Operation) (types : List ValType) (a b : Value) (under : List Value) (next : OperandTypes) → takes_one o ≡ false
+    → Some (record { types = result_of o ∷ types; loose = false }) ≡ Some next
+    → Fit (operand_of o ∷ operand_of o ∷ types) (b ∷ a ∷ under) → Safe (operation_effect (Some o) a b under) next
 unfolding Fit
-operands_safe op types [] next two e fit = absurd fit
-operands_safe op types (b ∷ []) next two e fit = absurd fit.1
-operands_safe op types (b ∷ a ∷ under) next two e fit =
-    let first = has_number (operand_of (operation_of op)) a fit.1.0 in
-    let second = has_number (operand_of (operation_of op)) b fit.0 in
-    let here : binary_effect op (b ∷ a ∷ under) ≡ computed (result_of (operation_of op)) (binary_result op first.0 second.0) under =
-    ap (λ t. cond t Breaks (with_numbers op (number_of (operand_of (operation_of op)) a) (number_of (operand_of (operation_of op)) b) under)) two
-    ∙ ap (λ (m : Option ℕ). with_numbers op m (number_of (operand_of (operation_of op)) b) under) first.1
-    ∙ ap (λ (m : Option ℕ). with_numbers op (Some first.0) m under) second.1 in
-    subst (λ x. Safe x next) (sym here) (result_safe (result_of (operation_of op)) (binary_result op first.0 second.0) under types next e fit.1.1)
+operands_safe o types a b under next two e fit =
+    let first = has_number (operand_of o) a fit.1.0 in
+    let second = has_number (operand_of o) b fit.0 in
+    let here : operation_effect (Some o) a b under ≡ computed (result_of o) (two_operands o first.0 second.0) under =
+    ap (λ t. cond t Breaks (with_numbers o (number_of (operand_of o) a) (number_of (operand_of o) b) under)) two
+    ∙ ap (λ (m : Option ℕ). with_numbers o m (number_of (operand_of o) b) under) first.1
+    ∙ ap (λ (m : Option ℕ). with_numbers o (Some first.0) m under) second.1 in
+    subst (λ x. Safe x next) (sym here) (result_safe (result_of o) (two_operands o first.0 second.0) under types next e fit.1.1)
 
-binary_safe : (op : ℕ) (types : List ValType) (values : List Value) (next : OperandTypes) → takes_one (operation_of op) ≡ false
-    → binary_types (operand_of (operation_of op)) (result_of (operation_of op)) (record { types = types; loose = false }) ≡ Some next
+list_safe : (op : ℕ) (o : Operation) (types : List ValType) (values : List Value) (next : OperandTypes) → operation_of op ≡ Some o → takes_one o ≡ false
+    → Some (record { types = result_of o ∷ types; loose = false }) ≡ Some next
+    → Fit (operand_of o ∷ operand_of o ∷ types) values → Safe (binary_effect op values) next
+unfolding Fit
+list_safe op o types [] next known two e fit = absurd fit
+list_safe op o types (b ∷ []) next known two e fit = absurd fit.1
+list_safe op o types (b ∷ a ∷ under) next known two e fit =
+    subst (λ (x : Option Operation). Safe (operation_effect x a b under) next) (sym known) (operands_safe o types a b under next two e fit)
+
+binary_safe : (op : ℕ) (o : Operation) (types : List ValType) (values : List Value) (next : OperandTypes) → operation_of op ≡ Some o → takes_one o ≡ false
+    → binary_types (operand_of o) (result_of o) (record { types = types; loose = false }) ≡ Some next
     → Fit types values → Safe (binary_effect op values) next
-binary_safe op types values next two e fit =
-    let operand = operand_of (operation_of op) in
-    let both = chained (option_and_then (pull_from operand) (pull operand types false)) (laid (result_of (operation_of op))) next e in
+binary_safe op o types values next known two e fit =
+    let operand = operand_of o in
+    let both = chained (option_and_then (pull_from operand) (pull operand types false)) (laid (result_of o)) next e in
     let each = chained (pull operand types false) (pull_from operand) both.0 both.1 in
     let first = pulled operand types each.0 each.1 in
     let rest = subst (λ (x : OperandTypes). pull_from operand x ≡ Some both.0) first.2 each.2 in
     let second = pulled operand first.0 both.0 rest in
     let stand : types ≡ operand ∷ operand ∷ second.0 = first.1 ∙ ap (λ (ts : List ValType). operand ∷ ts) second.1 in
-    operands_safe op second.0 values next two
-    (subst (λ (x : OperandTypes). laid (result_of (operation_of op)) x ≡ Some next) second.2 both.2)
+    list_safe op o second.0 values next known two
+    (subst (λ (x : OperandTypes). laid (result_of o) x ≡ Some next) second.2 both.2)
     (subst (λ (ts : List ValType). Fit ts values) stand fit)
+
+operation_safe : (op : ℕ) (known : Option Operation) (types : List ValType) (values : List Value) (next : OperandTypes) → operation_of op ≡ known
+    → operation_types known (record { types = types; loose = false }) ≡ Some next → Fit types values → Safe (binary_effect op values) next
+operation_safe op None types values next known e fit = cc
+operation_safe op (Some o) types values next known e fit = two (takes_one o) refl e
+  where
+    two : (b : Bool) → takes_one o ≡ b → cond b None (binary_types (operand_of o) (result_of o) (record { types = types; loose = false })) ≡ Some next → Safe (binary_effect op values) next
+    two true t e = cc
+    two false t e = binary_safe op o types values next known t e fit
 
 drop_safe : (types : List ValType) (values : List Value) (next : OperandTypes) → typed_operator Drop (record { types = types; loose = false }) ≡ Some next → Fit types values → Safe (effect Drop values) next
 unfolding Fit
@@ -116,11 +133,7 @@ operator_safe Unreachable types values next e fit = Stops trap.Unreachable refl
 operator_safe Nop types values next e fit = lays values _ next e refl fit
 operator_safe Drop types values next e fit = drop_safe types values next e fit
 operator_safe (ConstI32 n) types values next e fit = lays (Int32 n ∷ values) _ next e refl (refl, fit)
-operator_safe (Binary op) types values next e fit = two (takes_one (operation_of op)) refl e
-  where
-    two : (b : Bool) → takes_one (operation_of op) ≡ b → cond b None (binary_types (operand_of (operation_of op)) (result_of (operation_of op)) (record { types = types; loose = false })) ≡ Some next → Safe (binary_effect op values) next
-    two true t e = cc
-    two false t e = binary_safe op types values next t e fit
+operator_safe (Binary op) types values next e fit = operation_safe op (operation_of op) types values next refl e fit
 operator_safe op types values next e fit = cc
 
 record NotStuck (r : Run) : Type 0 where

@@ -17,13 +17,16 @@ values_of-push stack n = ap (map Int32) (reverse-append stack (n ∷ []))
 values_of-twice : (rest : List ℕ) (a b : ℕ) → values_of ((rest ++ a ∷ []) ++ b ∷ []) ≡ Int32 b ∷ Int32 a ∷ values_of rest
 values_of-twice rest a b = values_of-push (rest ++ a ∷ []) b ∙ ap (λ (vs : List Value). Int32 b ∷ vs) (values_of-push rest a)
 
-effect_at : (op a b value : ℕ) (under : List Value) → IsBuiltBinary op → binary_result op a b ≡ Ok value → binary_effect op (Int32 b ∷ Int32 a ∷ under) ≡ Goes (Int32 value ∷ under)
+computes_same : (r : Result ℕ Trap) (value : ℕ) (under : List Value) → Some r ≡ Some (Ok value) → computed I32 r under ≡ Goes (Int32 value ∷ under)
+computes_same r value under e = let same : r ≡ Ok value = cc in ap (λ (x : Result ℕ Trap). computed I32 x under) same
+
+effect_at : (op a b value : ℕ) (under : List Value) → IsBuiltBinary op → binary_result op a b ≡ Some (Ok value) → binary_effect op (Int32 b ∷ Int32 a ∷ under) ≡ Goes (Int32 value ∷ under)
 effect_at op a b value under (inl e) r =
-    let P : ℕ → Type 0 = λ o. binary_result o a b ≡ Ok value → binary_effect o (Int32 b ∷ Int32 a ∷ under) ≡ Goes (Int32 value ∷ under) in
-    subst P (sym e) (λ s. ap (λ (x : Result ℕ Trap). computed I32 x under) s) r
+    let P : ℕ → Type 0 = λ o. binary_result o a b ≡ Some (Ok value) → binary_effect o (Int32 b ∷ Int32 a ∷ under) ≡ Goes (Int32 value ∷ under) in
+    subst P (sym e) (λ s. computes_same _ value under s) r
 effect_at op a b value under (inr e) r =
-    let P : ℕ → Type 0 = λ o. binary_result o a b ≡ Ok value → binary_effect o (Int32 b ∷ Int32 a ∷ under) ≡ Goes (Int32 value ∷ under) in
-    subst P (sym e) (λ s. ap (λ (x : Result ℕ Trap). computed I32 x under) s) r
+    let P : ℕ → Type 0 = λ o. binary_result o a b ≡ Some (Ok value) → binary_effect o (Int32 b ∷ Int32 a ∷ under) ≡ Goes (Int32 value ∷ under) in
+    subst P (sym e) (λ s. computes_same _ value under s) r
 
 types_at : (op count : ℕ) → IsBuiltBinary op → typed_operator (Binary op) (operands (suc (suc count))) ≡ Some (operands (suc count))
 types_at op count (inl e) =
@@ -34,7 +37,7 @@ types_at op count (inr e) =
     subst P (sym e) refl
 
 -- two numbers are taken off, and the result is laid on
-pub combined : (op : ℕ) (before after rest : List ℕ) (a b value : ℕ) → IsBuiltBinary op → before ≡ (rest ++ a ∷ []) ++ b ∷ [] → after ≡ rest ++ value ∷ [] → binary_result op a b ≡ Ok value → Acts (Binary op) before after None
+pub combined : (op : ℕ) (before after rest : List ℕ) (a b value : ℕ) → IsBuiltBinary op → before ≡ (rest ++ a ∷ []) ++ b ∷ [] → after ≡ rest ++ value ∷ [] → binary_result op a b ≡ Some (Ok value) → Acts (Binary op) before after None
 combined op before after rest a b value built was is r =
     let long : length before ≡ suc (suc (length rest)) = omega (arith, ap (λ (xs : List ℕ). length xs) was, length-append (rest ++ a ∷ []) (b ∷ []), length-append rest (a ∷ [])) in
     let short : length after ≡ suc (length rest) = omega (arith, ap (λ (xs : List ℕ). length xs) is, length-append rest (value ∷ [])) in (

@@ -1,7 +1,8 @@
 -- How a straight body runs within a budget of units, and what each operator costs
 -- (WebAssembly Core 1.0, section 4.4; prices are this project's own).
 use Rattle.std.specs.Prelude.{ℕ, ◌-◌, nat_lt, if◌then◌else◌, List, [], ◌∷◌, sum, Option, None, Some, Result, Ok, Err}
-use Rattle.wasm_ops.specs.Arithmetic.{binary_result}
+use Rattle.wasm_ops.specs.declared.operations.Operation.{Operation}
+use Rattle.wasm_ops.specs.Arithmetic.{two_operands}
 use Rattle.wasm_ops.specs.Operations.{operand_of, operation_of, result_of, takes_one}
 use Rattle.wasm_ops.specs.declared.operators.Op.{Op}
 use Rattle.wasm_ops.specs.declared.operators.Op.TheVariants.{Unreachable, Nop, Drop, ConstI32, Binary}
@@ -56,16 +57,21 @@ abbrev pub computed : ValType → Result ℕ Trap → (under : List Value) → E
 computed result (Ok n) under = Goes (value_of result n ∷ under)
 computed result (Err why) under = Traps why
 
-abbrev pub with_numbers : (op : ℕ) → (a b : Option ℕ) → (under : List Value) → Effect
-with_numbers op (Some a) (Some b) under = computed (result_of (operation_of op)) (binary_result op a b) under
-with_numbers op (Some a) None under = Breaks
-with_numbers op None b under = Breaks
+abbrev pub with_numbers : (operation : Operation) → (a b : Option ℕ) → (under : List Value) → Effect
+with_numbers operation (Some a) (Some b) under = computed (result_of operation) (two_operands operation a b) under
+with_numbers operation (Some a) None under = Breaks
+with_numbers operation None b under = Breaks
 
--- an operator of two operands takes the last two, which are of its type
+-- an operation of two operands takes these, which are of its type
+abbrev pub operation_effect : Option Operation → (a b : Value) → (under : List Value) → Effect
+operation_effect (Some operation) a b under =
+    if takes_one operation then Breaks
+    else with_numbers operation (number_of (operand_of operation) a) (number_of (operand_of operation) b) under
+operation_effect None a b under = Breaks
+
+-- an operator of two operands takes the last two
 abbrev pub binary_effect : (op : ℕ) → List Value → Effect
-binary_effect op (b ∷ a ∷ under) =
-    if takes_one (operation_of op) then Breaks
-    else with_numbers op (number_of (operand_of (operation_of op)) a) (number_of (operand_of (operation_of op)) b) under
+binary_effect op (b ∷ a ∷ under) = operation_effect (operation_of op) a b under
 binary_effect op _ = Breaks
 
 abbrev pub drop_effect : List Value → Effect

@@ -1,5 +1,6 @@
 -- The types of the operands along a straight body (WebAssembly Core 1.0, sections 3.3 and A.3).
 use Rattle.std.specs.Prelude.{◌≡◌, Bool, true, false, if◌then◌else◌, List, [], ◌∷◌, Option, Some, None, option_and_then}
+use Rattle.wasm_ops.specs.declared.operations.Operation.{Operation}
 use Rattle.wasm_ops.specs.Operations.{operand_of, operation_of, result_of, takes_one}
 use Rattle.wasm_ops.specs.declared.operators.Op.{Op}
 use Rattle.wasm_ops.specs.declared.operators.Op.TheVariants.{Unreachable, Nop, Drop, ConstI32, Binary}
@@ -45,14 +46,18 @@ laid t now = Some (lay t now)
 abbrev pub binary_types : (operand result : ValType) → OperandTypes → Option OperandTypes
 binary_types operand result now = option_and_then (laid result) (option_and_then (pull_from operand) (pull_from operand now))
 
+-- an operation of two operands takes these and lays its result
+abbrev pub operation_types : Option Operation → OperandTypes → Option OperandTypes
+operation_types (Some operation) now = if takes_one operation then None else binary_types (operand_of operation) (result_of operation) now
+operation_types None now = None
+
 -- the types behind an operator, or none where it does not find what it takes
 abbrev pub typed_operator : Op → OperandTypes → Option OperandTypes
 typed_operator Unreachable now = Some (record { types = []; loose = true })
 typed_operator Nop now = Some now
 typed_operator Drop now = pull_any now.types now.loose
 typed_operator (ConstI32 n) now = laid I32 now
-typed_operator (Binary op) now =
-    if takes_one (operation_of op) then None else binary_types (operand_of (operation_of op)) (result_of (operation_of op)) now
+typed_operator (Binary op) now = operation_types (operation_of op) now
 typed_operator op now = None
 
 -- the types behind all operators

@@ -71,7 +71,8 @@ impl<'a, R: Files> FileLibrary<'a, R> {
     ) -> Result<Vec<u8>, Fetch>
         ensures given { (name : List ℕ) → CameTo result (UntoldGave self.old self.new name most) }
         ensures at_most { IfOk result (λ bytes. length bytes.items ≤ most + 1) }
-        ensures cause { (name : List ℕ) → IfErr result (FetchCause name (untold_library self.old) (untold_library self.new)) }
+        ensures cause { (name : List ℕ)
+            → IfErr result (FetchCause name (untold_library self.old) (untold_library self.new)) }
         ensures later { self.old ≤ self.new }
     {
         let mut bytes = Vec::new(alloc);
@@ -181,8 +182,11 @@ impl<W: Write> StdSink<W> {
     /// Writes some of the bytes by one call, and says how many. An interrupted call wrote none.
     fn write_some(&mut self, bytes: &[u8]) -> Result<usize, Failed>
         ensures within { IfOk result (λ count. count ≤ length bytes.now) }
-        ensures ok { IfOk result (λ count. Gains (W.contents self.old.stream) (W.contents self.new.stream) (take count bytes.now)) }
-        ensures err { OnErr result (Keeps (W.contents self.old.stream) (W.contents self.new.stream)) }
+        ensures ok { IfOk result (λ count.
+            Gains (W.contents self.old.stream) (W.contents self.new.stream)
+            (take count bytes.now)) }
+        ensures err { OnErr result
+            (Keeps (W.contents self.old.stream) (W.contents self.new.stream)) }
         ensures cause { FailsOnlyWhereRose result self.old.faults self.new.faults }
         ensures later { self.old.faults ≤ self.new.faults }
     {
@@ -216,14 +220,18 @@ impl<W: Write> Sink for StdSink<W> {
     ghost state = { λ sink. untold_sink sink.faults };
 
     fn write(&mut self, bytes: &[u8]) -> Result<(), Failed>
-        ensures ok { OnOk result (Appends (untold_sink self.old.faults) (untold_sink self.new.faults) bytes.now) }
-        ensures err { OnErr result (TakesPrefix (untold_sink self.old.faults) (untold_sink self.new.faults) bytes.now) }
+        ensures ok { OnOk result
+            (Appends (untold_sink self.old.faults) (untold_sink self.new.faults) bytes.now) }
+        ensures err { OnErr result
+            (TakesPrefix (untold_sink self.old.faults) (untold_sink self.new.faults) bytes.now) }
         ensures cause { FailsOnlyWhereRose result self.old.faults self.new.faults }
         ensures later { self.old.faults ≤ self.new.faults }
 
         // Where the stream tells what it holds, it holds the bytes, or a prefix of them.
-        ensures all { OnOk result (Gains (W.contents self.old.stream) (W.contents self.new.stream) bytes.now) }
-        ensures some { OnErr result (GainsPrefix (W.contents self.old.stream) (W.contents self.new.stream) bytes.now) }
+        ensures all { OnOk result
+            (Gains (W.contents self.old.stream) (W.contents self.new.stream) bytes.now) }
+        ensures some { OnErr result
+            (GainsPrefix (W.contents self.old.stream) (W.contents self.new.stream) bytes.now) }
     {
         let mut rest = bytes;
         for _ in 0..u64::MAX {

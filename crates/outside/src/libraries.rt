@@ -33,7 +33,8 @@ pub trait Library {
         ensures given { CameTo result (gave self.old self.new name.now most) }
 
         // What is held is answered.
-        ensures bytes { IfOk result (λ bytes. Held (state self.old).held name.now most bytes.items) }
+        ensures bytes { IfOk result (λ bytes.
+            Held (state self.old).held name.now most bytes.items) }
         ensures at_most { IfOk result (λ bytes. length bytes.items ≤ most + 1) }
 
         // `Failed` only where the count rose, and `Missing` only for a name that is not held.

@@ -39,7 +39,13 @@ impl Model for Page {
 
     ghost Value = { Writing };
 
-    ghost view = { λ p. record { bytes = p.bytes.items; room = p.room; failing = p.failing.items; calls = p.calls; faults = p.faults } };
+    ghost view = { λ p. record {
+      bytes = p.bytes.items;
+      room = p.room;
+      failing = p.failing.items;
+      calls = p.calls;
+      faults = p.faults;
+    } };
 
     // The room was reserved when the page was made, so no write takes memory.
     ghost invariant = { λ p. (vec_len p.bytes ≤ p.room) × (p.room ≤ vec_capacity p.bytes) };
@@ -50,7 +56,8 @@ impl Page {
     /// number in `failing` fails after the bytes that its cut lets pass, or that fit. Where two
     /// cuts have one number the first stands.
     pub fn new(alloc: Global, room: u64, failing: Vec<Cut>) -> Result<Page, AllocError>
-        ensures { IfOk result (λ page. page ≡ record { bytes = []; room = room; failing = failing.items; calls = 0; faults = 0 }) }
+        ensures { IfOk result (λ page. page
+            ≡ record { bytes = []; room = room; failing = failing.items; calls = 0; faults = 0 }) }
     {
         Ok(Page {
             bytes: Vec::with_capacity(alloc, room as usize)?,
@@ -100,7 +107,8 @@ impl Sink for Page {
 
     fn write(&mut self, bytes: &[u8]) -> Result<(), Failed>
         ensures ok { OnOk result (Appends (page_state self.old) (page_state self.new) bytes.now) }
-        ensures err { OnErr result (TakesPrefix (page_state self.old) (page_state self.new) bytes.now) }
+        ensures err { OnErr result
+            (TakesPrefix (page_state self.old) (page_state self.new) bytes.now) }
         ensures cause { FailsOnlyWhereRose result self.old.faults self.new.faults }
         ensures later { self.old.faults ≤ self.new.faults }
 

@@ -28,14 +28,24 @@ impl Model for Shelf {
 
     ghost Value = { Contents };
 
-    ghost view = { λ s. record { files = map file_of s.files.items; failing = s.failing.items; calls = s.calls; faults = s.faults } };
+    ghost view = { λ s. record {
+      files = map file_of s.files.items;
+      failing = s.failing.items;
+      calls = s.calls;
+      faults = s.faults;
+    } };
 }
 
 impl Shelf {
     /// A library of these files by name, of which a call of `read` fails if its number, counted
     /// from 0, stands in `failing`. Where two files have one name the first stands.
     pub fn new(files: Vec<(Text, Vec<u8>)>, failing: Vec<u64>) -> Shelf
-        ensures { result ≡ record { files = map file_of files.items; failing = failing.items; calls = 0; faults = 0 } }
+        ensures { result ≡ record {
+          files = map file_of files.items;
+          failing = failing.items;
+          calls = 0;
+          faults = 0;
+        } }
     {
         Shelf {
             files,
@@ -89,9 +99,11 @@ impl Library for Shelf {
 
     fn read(&mut self, alloc: Global, name: &str, most: u64) -> Result<Vec<u8>, Fetch>
         ensures given { CameTo result (ShelfGave self.old self.new name.now most) }
-        ensures bytes { IfOk result (λ bytes. Held (shelf_state self.old).held name.now most bytes.items) }
+        ensures bytes { IfOk result (λ bytes.
+            Held (shelf_state self.old).held name.now most bytes.items) }
         ensures at_most { IfOk result (λ bytes. length bytes.items ≤ most + 1) }
-        ensures cause { IfErr result (FetchCause name.now (shelf_state self.old) (shelf_state self.new)) }
+        ensures cause { IfErr result
+            (FetchCause name.now (shelf_state self.old) (shelf_state self.new)) }
         ensures same { (shelf_state self.new).held ≡ (shelf_state self.old).held }
         ensures later { self.old.faults ≤ self.new.faults }
 

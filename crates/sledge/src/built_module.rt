@@ -12,7 +12,8 @@ use wasm_ops::{Body, Export, FuncType, IntOp, Module, Op};
 /// where the module is none of those that are run so far.
 pub fn built_operators(module: &Module) -> Option<&[Op]>
     ensures found { IfSome result (λ ops. IsBuiltModule «module».now ops.now) }
-    ensures only { (ops : List OpValue) → IsBuiltModule «module».now ops → IsSomeAnd result (λ given. given.now ≡ ops) }
+    ensures only { (ops : List OpValue) → IsBuiltModule «module».now ops
+        → IsSomeAnd result (λ given. given.now ≡ ops) }
 {
     if !has_functions_alone(module) {
         return None;
@@ -80,7 +81,8 @@ fn is_start(export: &Export) -> bool
 /// The operators of a body without locals and branch tables, without the `End` that closes it.
 fn straight_operators(body: &Body) -> Option<&[Op]>
     ensures found { IfSome result (λ ops. body.now ≡ straight_body ops.now) }
-    ensures only { (ops : List OpValue) → body.now ≡ straight_body ops → IsSomeAnd result (λ given. given.now ≡ ops) }
+    ensures only { (ops : List OpValue) → body.now ≡ straight_body ops
+        → IsSomeAnd result (λ given. given.now ≡ ops) }
 {
     if !body.locals.as_slice().is_empty() {
         return None;

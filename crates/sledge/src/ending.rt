@@ -26,7 +26,11 @@ impl Model for Ending {
 
     ghost Value = { Due };
 
-    ghost view = { λ e. record { status = e.status; text = e.text.items; note = string_bytes e.note } };
+    ghost view = { λ e. record {
+      status = e.status;
+      text = e.text.items;
+      note = string_bytes e.note;
+    } };
 }
 
 impl Ending {

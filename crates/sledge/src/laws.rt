@@ -42,21 +42,26 @@ pub fn invoke_endings()
     ensures module_missing { (words : List (List ℕ)) (files : Files) (i : InvokeWords)
         → command_of words ≡ Some (AsksInvoke i) → files i.module_name ≡ None
         → ending words files ≡ not_read i.module_name }
-    ensures module_refused { (words : List (List ℕ)) (files : Files) (i : InvokeWords) (file : List ℕ) (fault : Fault)
-        → command_of words ≡ Some (AsksInvoke i) → files i.module_name ≡ Some file → RefusesModule file fault
+    ensures module_refused { (words : List (List ℕ)) (files : Files)
+        (i : InvokeWords) (file : List ℕ) (fault : Fault)
+        → command_of words ≡ Some (AsksInvoke i) → files i.module_name ≡ Some file
+        → RefusesModule file fault
         → ending words files ≡ module_fault 0 fault.number fault.place }
     ensures not_built { (words : List (List ℕ)) (files : Files) (i : InvokeWords) (file : List ℕ)
         → command_of words ≡ Some (AsksInvoke i) → files i.module_name ≡ Some file → IsNotBuilt file
         → ending words files ≡ module_fault 0 90 0 }
 
     // It spells one that is run so far, and the body's file is missing, or too long, or neither.
-    ensures body_missing { (words : List (List ℕ)) (files : Files) (i : InvokeWords) (file : List ℕ) (ops : List Op)
-        → command_of words ≡ Some (AsksInvoke i) → files i.module_name ≡ Some file → IsBuilt file ops
-        → files i.body_name ≡ None → ending words files ≡ not_read i.body_name }
-    ensures body_too_long { (words : List (List ℕ)) (files : Files) (i : InvokeWords) (file body : List ℕ) (ops : List Op)
+    ensures body_missing { (words : List (List ℕ)) (files : Files)
+        (i : InvokeWords) (file : List ℕ) (ops : List Op)
+        → command_of words ≡ Some (AsksInvoke i) → files i.module_name ≡ Some file
+        → IsBuilt file ops → files i.body_name ≡ None → ending words files ≡ not_read i.body_name }
+    ensures body_too_long { (words : List (List ℕ)) (files : Files)
+        (i : InvokeWords) (file body : List ℕ) (ops : List Op)
         → command_of words ≡ Some (AsksInvoke i) → HoldsBoth i files file body → IsBuilt file ops
         → body_limit < length body → ending words files ≡ recording_fault 76 }
-    ensures complete { (words : List (List ℕ)) (files : Files) (i : InvokeWords) (file body : List ℕ) (ops : List Op)
+    ensures complete { (words : List (List ℕ)) (files : Files)
+        (i : InvokeWords) (file body : List ℕ) (ops : List Op)
         → command_of words ≡ Some (AsksInvoke i) → HoldsBoth i files file body → IsBuilt file ops
         → length body ≤ body_limit → AnswersInvoke i files (ending words files) }
 

@@ -34,7 +34,8 @@ pub struct Execution {
 pub fn execute(alloc: Global, ops: &[Op], budget: u64) -> Result<Execution, AllocError>
     requires built { AllByRecursion IsBuiltOperator ops.now }
     requires typed { IsTyped ops.now }
-    ensures { IfOk result (λ execution. execution_of ops.now budget ≡ Some (execution_view execution)) }
+    ensures { IfOk result (λ execution.
+        execution_of ops.now budget ≡ Some (execution_view execution)) }
 {
     let mut stack = Vec::new(alloc);
     let mut left = budget;

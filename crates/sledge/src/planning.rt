@@ -31,7 +31,8 @@ const TOO_LONG: u8 = 76;
 /// The ending of a command line, by its plan and the reads that are made here. Nothing is written
 /// yet.
 pub fn plan<L: Library>(alloc: Global, words: &[String], lib: &mut L) -> Result<Ending, AllocError>
-    ensures comes { IfOk result (Comes L.gave (plan_for (map string_bytes words.now)) lib.old lib.new) }
+    ensures comes { IfOk result
+        (Comes L.gave (plan_for (map string_bytes words.now)) lib.old lib.new) }
     ensures same { (L.state lib.new).held ≡ (L.state lib.old).held }
     ensures later { (L.state lib.old).faults ≤ (L.state lib.new).faults }
 {
@@ -49,7 +50,8 @@ fn from_module<L: Library>(
     invoke: Invoke<'_>,
     lib: &mut L,
 ) -> Result<Ending, AllocError>
-    ensures comes { IfOk result (Comes L.gave (invoke_plan (invoke_view invoke.entry)) lib.old lib.new) }
+    ensures comes { IfOk result
+        (Comes L.gave (invoke_plan (invoke_view invoke.entry)) lib.old lib.new) }
     ensures same { (L.state lib.new).held ≡ (L.state lib.old).held }
     ensures later { (L.state lib.old).faults ≤ (L.state lib.new).faults }
 {
@@ -93,7 +95,8 @@ fn from_body<L: Library>(
 ) -> Result<Ending, AllocError>
     requires built { AllByRecursion IsBuiltOperator ops.now }
     requires typed { IsTyped ops.now }
-    ensures comes { IfOk result (Comes L.gave (body_plan (invoke_view invoke.entry) ops.now) lib.old lib.new) }
+    ensures comes { IfOk result
+        (Comes L.gave (body_plan (invoke_view invoke.entry) ops.now) lib.old lib.new) }
     ensures same { (L.state lib.new).held ≡ (L.state lib.old).held }
     ensures later { (L.state lib.old).faults ≤ (L.state lib.new).faults }
 {

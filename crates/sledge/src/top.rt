@@ -41,7 +41,8 @@ pub fn run<R: Threads + Sync, L: Library, S: Sink, N: Sink, G: Gate>(
     ensures ended { (e : Ended)
         × (Walks L.gave (plan_for (map string_bytes words.now)) lib.old lib.new e
         ⊎ (e ≡ out_of_memory))
-        × Leaves e result (S.state out.old) (S.state out.new) (N.state notes.old) (N.state notes.new) }
+        × Leaves e result
+        (S.state out.old) (S.state out.new) (N.state notes.old) (N.state notes.new) }
 
     // Over a library that tells its files: the status of the ending over them comes, unless there
     // was no memory, or a read or a write failed and was counted; and at status 0 the outputs took
@@ -85,7 +86,8 @@ fn carry_out<L: Library, S: Sink, N: Sink>(
     ensures ended { (e : Ended)
         × (Walks L.gave (plan_for (map string_bytes words.now)) lib.old lib.new e
         ⊎ (e ≡ out_of_memory))
-        × Leaves e result (S.state out.old) (S.state out.new) (N.state notes.old) (N.state notes.new) }
+        × Leaves e result
+        (S.state out.old) (S.state out.new) (N.state notes.old) (N.state notes.new) }
     ensures same_files { (L.state lib.new).held ≡ (L.state lib.old).held }
     ensures later { (L.state lib.old).faults ≤ (L.state lib.new).faults }
 {

@@ -5,7 +5,7 @@ use std::test::Fail;
 
 #[test]
 fn takes_what_fits_up_to_its_cuts(rt: HostRuntime) -> Result<(), Fail> {
-    // The room, the call that is cut and what it lets pass, which of three calls pass, what is taken.
+    // The room, the cut call and what it lets pass, which of three calls pass, what is taken.
     let rows: [(u64, Option<(u64, u64)>, [bool; 3], &str); 12] = [
         (0, None, [false, false, false], ""),
         (3, None, [true, false, false], "one"),

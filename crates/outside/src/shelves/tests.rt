@@ -1,4 +1,5 @@
-// Which bytes a shelf answers, by values written out by hand, and each of its calls failing in turn.
+// Which bytes a shelf answers, by values written out by hand, and each of its calls failing in
+// turn.
 use super::*;
 use std::alloc::AllocError;
 use std::test::Fail;

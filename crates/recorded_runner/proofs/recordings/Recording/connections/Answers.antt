@@ -1,0 +1,16 @@
+use Rattle.std.proofs.Common.{ap, arith, length}
+use Rattle.recorded_runner.specs.Standing.{Standing}
+use Rattle.recorded_runner.proofs.StandingLaws.{few_connections}
+use Rattle.recorded_runner.proofs.recordings.Recording.connections.Goals as goal
+
+pub overflow_cast-result : goal.overflow_cast-result
+overflow_cast-result c =
+    let few = few_connections c.self.inside.records.items c.self.invariant.0 in
+    let same = ap (λ (s : Standing). length s.links) c.self.invariant.1 in
+    omega (arith, few, same, c.len.ensures)
+
+pub returns-clause-few : goal.returns-clause-few
+returns-clause-few c =
+    let few = few_connections c.self.inside.records.items c.self.invariant.0 in
+    let same = ap (λ (s : Standing). length s.links) c.self.invariant.1 in
+    omega (arith, few, same, c.len.ensures)

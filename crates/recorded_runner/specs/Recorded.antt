@@ -1,0 +1,50 @@
+-- Which bytes are a recording, and which refusal comes first where they are none.
+use Rattle.std.specs.Prelude.{◌≡◌, ◌⊎◌, ℕ, ◌^◌, ◌<◌, ◌≤◌, List, ◌++◌, length, take, Some}
+use Rattle.std.specs.List.{flat_map, AllByRecursion}
+use Rattle.recorded_runner.specs.declared.records.Event.{Event}
+use Rattle.recorded_runner.specs.declared.records.Event.TheVariants.{Begins, Arrives, Closes}
+use Rattle.recorded_runner.specs.declared.records.Record.{Record}
+use Rattle.recorded_runner.specs.declared.refusals.Refusal.{Refusal}
+use Rattle.recorded_runner.specs.declared.refusals.Refusal.TheVariants.{BadMagic, TooLarge}
+use Rattle.recorded_runner.specs.Standing.{standing_behind}
+use Rattle.recorded_runner.specs.Following.{IsLegal}
+use Rattle.recorded_runner.specs.Spelling.{magic, record_spelling, spelling}
+use Rattle.recorded_runner.specs.Looks.{refusal_ahead}
+
+-- the most bytes, 32 MiB
+abbrev pub most_bytes : ℕ
+most_bytes = 33554432
+
+-- the tenant is one of so many, and the length of a piece stands in 32 bits
+abbrev pub EventFits : (tenants : ℕ) → Event → Type 0
+EventFits tenants (Begins tenant) = tenant < tenants
+EventFits tenants (Arrives piece) = length piece < 2 ^ 32
+EventFits tenants Closes = Unit {0}
+
+-- what a record tells stands in 32 bits, and its tenant is one of so many
+pub record Fits (tenants : ℕ) (r : Record) : Type 0 where
+  pub moment : r.moment < 2 ^ 32
+  pub event : EventFits tenants r.event
+
+-- all that is in the bytes, with no more than so many tenants, is these records
+pub record Recorded (tenants : ℕ) (bytes : List ℕ) (records : List Record) : Type 0 where
+  pub small : length bytes ≤ most_bytes
+  pub spelt : bytes ≡ spelling records
+  pub legal : IsLegal records
+  pub fit : AllByRecursion (Fits tenants) records
+
+-- records stand behind the magic, and what stands behind them is refused
+pub record IsRefusedBehind (tenants : ℕ) (bytes : List ℕ) (refusal : Refusal) : Type 0 where
+  pub records : List Record
+  pub ahead : List ℕ
+  pub spelt : bytes ≡ magic ++ (flat_map record_spelling records ++ ahead)
+  pub legal : IsLegal records
+  pub fit : AllByRecursion (Fits tenants) records
+  pub refused : refusal_ahead tenants (standing_behind records) ahead ≡ Some refusal
+
+-- The first refusal: there are too many bytes; else they do not begin with the magic; else the first one that is met behind records.
+abbrev pub IsRefused : (tenants : ℕ) → (bytes : List ℕ) → Refusal → Type 0
+IsRefused tenants bytes refusal =
+    ((most_bytes < length bytes) × (refusal ≡ TooLarge))
+    ⊎ (((length bytes ≤ most_bytes) × ((take 4 bytes ≡ magic → ⊥) × (refusal ≡ BadMagic)))
+    ⊎ ((length bytes ≤ most_bytes) × IsRefusedBehind tenants bytes refusal))

@@ -1,5 +1,5 @@
 -- Which bytes are a recording, and which refusal comes first where they are none.
-use Rattle.std.specs.Prelude.{◌≡◌, ◌⊎◌, ℕ, ◌^◌, ◌<◌, ◌≤◌, List, ◌++◌, length, take, Some}
+use Rattle.std.specs.Prelude.{◌≡◌, ◌≢◌, ◌⊎◌, ℕ, ◌^◌, ◌<◌, ◌≤◌, List, ◌++◌, length, take, Some, slice_index}
 use Rattle.std.specs.List.{flat_map, AllByRecursion}
 use Rattle.recorded_runner.specs.declared.records.Event.{Event}
 use Rattle.recorded_runner.specs.declared.records.Event.TheVariants.{Begins, Arrives, Closes}
@@ -10,6 +10,10 @@ use Rattle.recorded_runner.specs.Standing.{standing_behind}
 use Rattle.recorded_runner.specs.Following.{IsLegal}
 use Rattle.recorded_runner.specs.Spelling.{magic, record_spelling, spelling}
 use Rattle.recorded_runner.specs.Looks.{refusal_ahead}
+
+-- these numbers are bytes
+abbrev pub AreBytes : List ℕ → Type 0
+AreBytes bytes = (k : ℕ) → slice_index bytes k < 256
 
 -- the most bytes, 32 MiB
 abbrev pub most_bytes : ℕ
@@ -26,25 +30,35 @@ pub record Fits (tenants : ℕ) (r : Record) : Type 0 where
   pub moment : r.moment < 2 ^ 32
   pub event : EventFits tenants r.event
 
--- all that is in the bytes, with no more than so many tenants, is these records
+-- the bytes behind the magic are these records, legal and of known tenants, and what is ahead behind them
+pub record AreRecords (tenants : ℕ) (bytes : List ℕ) (records : List Record) (ahead : List ℕ) : Type 0 where
+  pub spelt : bytes ≡ flat_map record_spelling records ++ ahead
+  pub legal : IsLegal records
+  pub fit : AllByRecursion (Fits tenants) records
+
+-- the bytes, at most 32 MiB, spell these records and nothing else
 pub record Recorded (tenants : ℕ) (bytes : List ℕ) (records : List Record) : Type 0 where
   pub small : length bytes ≤ most_bytes
   pub spelt : bytes ≡ spelling records
   pub legal : IsLegal records
   pub fit : AllByRecursion (Fits tenants) records
 
--- records stand behind the magic, and what stands behind them is refused
-pub record IsRefusedBehind (tenants : ℕ) (bytes : List ℕ) (refusal : Refusal) : Type 0 where
+-- behind records, what is ahead is refused
+pub record IsRefusedAhead (tenants : ℕ) (bytes : List ℕ) (refusal : Refusal) : Type 0 where
   pub records : List Record
   pub ahead : List ℕ
-  pub spelt : bytes ≡ magic ++ (flat_map record_spelling records ++ ahead)
-  pub legal : IsLegal records
-  pub fit : AllByRecursion (Fits tenants) records
+  pub before : AreRecords tenants bytes records ahead
   pub refused : refusal_ahead tenants (standing_behind records) ahead ≡ Some refusal
+
+-- behind the magic, what is ahead is refused
+pub record IsRefusedBehind (tenants : ℕ) (bytes : List ℕ) (refusal : Refusal) : Type 0 where
+  pub body : List ℕ
+  pub begun : bytes ≡ magic ++ body
+  pub refused : IsRefusedAhead tenants body refusal
 
 -- The first refusal: there are too many bytes; else they do not begin with the magic; else the first one that is met behind records.
 abbrev pub IsRefused : (tenants : ℕ) → (bytes : List ℕ) → Refusal → Type 0
 IsRefused tenants bytes refusal =
     ((most_bytes < length bytes) × (refusal ≡ TooLarge))
-    ⊎ (((length bytes ≤ most_bytes) × ((take 4 bytes ≡ magic → ⊥) × (refusal ≡ BadMagic)))
+    ⊎ (((length bytes ≤ most_bytes) × ((take 4 bytes ≢ magic) × (refusal ≡ BadMagic)))
     ⊎ ((length bytes ≤ most_bytes) × IsRefusedBehind tenants bytes refusal))

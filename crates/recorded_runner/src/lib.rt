@@ -8,11 +8,13 @@
 mod faults;
 pub mod laws;
 mod looks;
+mod reading;
 mod recordings;
 mod records;
 mod refusals;
 
 pub use faults::RecordingFault;
+pub use reading::read_recording;
 pub use recordings::Recording;
 pub use records::{Event, Piece, Record};
 pub use refusals::Refusal;

@@ -4,3 +4,4 @@ pub mod SpeltLaws
 pub mod RecordedLaws
 pub mod ReadingSteps
 pub mod Responses
+pub mod ConnectionLaws

@@ -5,3 +5,4 @@ pub mod Spelling
 pub mod Looks
 pub mod Recorded
 pub mod Faults
+pub mod Connections

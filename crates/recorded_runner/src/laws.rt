@@ -1,7 +1,10 @@
 //! Laws of the definitions. The functions do nothing: their contracts are the laws.
-ghost use Rattle.std.specs.Prelude.{◌≡◌, ◌⊎◌, ◌<◌, ◌^◌, ℕ, List};
+ghost use Rattle.std.specs.Prelude.{◌≡◌, ◌⊎◌, ◌<◌, ◌^◌, ℕ, List, [], ◌∷◌, ◌++◌, length};
 ghost use Rattle.recorded_runner.specs.declared.records.Record.{Record};
 ghost use Rattle.recorded_runner.specs.declared.refusals.Refusal.{Refusal};
+ghost use Rattle.recorded_runner.specs.Connections.{connections_of, with_record};
+ghost use Rattle.recorded_runner.specs.Following.{MayFollow, IsLegal};
+ghost use Rattle.recorded_runner.specs.Standing.{standing_behind};
 ghost use Rattle.recorded_runner.specs.Recorded.{AreBytes, Recorded, IsRefused};
 
 /// Whatever the bytes are, and however many tenants there are, they are a recording or are refused: one of the two, with one list of records or with one refusal.
@@ -10,4 +13,12 @@ pub fn recording_or_refusal()
     ensures never_both { (tenants : ℕ) (bytes : List ℕ) (records : List Record) (why : Refusal) → tenants < 2 ^ 32 → Recorded tenants bytes records → IsRefused tenants bytes why → ⊥ }
     ensures one_recording { (tenants : ℕ) (bytes : List ℕ) (records others : List Record) → tenants < 2 ^ 32 → Recorded tenants bytes records → Recorded tenants bytes others → records ≡ others }
     ensures one_refusal { (tenants : ℕ) (bytes : List ℕ) (why other : Refusal) → tenants < 2 ^ 32 → IsRefused tenants bytes why → IsRefused tenants bytes other → why ≡ other }
+{}
+
+/// What the connections of a recording are, record by record.
+///
+/// There are as many as have begun. A record more adds a connection with the next link, adds a piece to the connection of its link, or changes none.
+pub fn connections_grow()
+    ensures as_many { (records : List Record) → length (connections_of records) ≡ length (standing_behind records).links }
+    ensures one_more { (records : List Record) (next : Record) → IsLegal records → MayFollow (standing_behind records) next → connections_of (records ++ next ∷ []) ≡ with_record (length records) (connections_of records) next }
 {}

@@ -1,5 +1,6 @@
 //! A recording, which reading and code make alike.
 ghost use Rattle.std.specs.Prelude.{◌≡◌, ◌≤◌, [], ◌∷◌, ◌++◌, ◌<◌, length, vec_len, vec_capacity, OnOk, OnErr};
+ghost use Rattle.recorded_runner.specs.Connections.{connections_of};
 ghost use Rattle.recorded_runner.specs.Following.{LinkFollows, MayFollow, IsLegal, is_open};
 ghost use Rattle.recorded_runner.specs.Standing.{links_behind, standing_behind};
 
@@ -64,6 +65,7 @@ impl Recording {
     /// How many connections have begun, at most 1,024. It is the link of the next one.
     pub fn connections(&self) -> u32
         ensures begun { result ≡ length (standing_behind self.now).links }
+        ensures all { result ≡ length (connections_of self.now) }
         ensures few { result ≤ 1024 }
     {
         self.links.len() as u32

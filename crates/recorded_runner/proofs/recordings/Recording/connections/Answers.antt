@@ -1,6 +1,8 @@
-use Rattle.std.proofs.Common.{ap, arith, length}
+use Rattle.std.proofs.Common.{◌≡◌, ap, arith, length}
 use Rattle.recorded_runner.specs.Standing.{Standing}
 use Rattle.recorded_runner.proofs.StandingLaws.{few_connections}
+use Rattle.recorded_runner.proofs.ConnectionLaws.{as_many}
+use Rattle.recorded_runner.specs.Connections.{connections_of}
 use Rattle.recorded_runner.proofs.recordings.Recording.connections.Goals as goal
 
 pub overflow_cast-result : goal.overflow_cast-result
@@ -14,3 +16,10 @@ returns-clause-few c =
     let few = few_connections c.self.inside.records.items c.self.invariant.0 in
     let same = ap (λ (s : Standing). length s.links) c.self.invariant.1 in
     omega (arith, few, same, c.len.ensures)
+
+pub returns-clause-all : goal.returns-clause-all
+returns-clause-all c =
+    let same = ap (λ (s : Standing). length s.links) c.self.invariant.1 in
+    let all = as_many c.self.inside.records.items in
+    let count : c.len.result ≡ length (connections_of c.self.inside.records.items) = omega (arith, same, all, c.len.ensures) in
+    rw (← c.self.view_is) count

@@ -1,7 +1,22 @@
 -- The text of a reply: status line, header lines, body (RFC 9112 sections 2.1, 4, 6 and 9.6, RFC 9110 sections 8.3, 8.6, 10.2.1 and 15).
 use Rattle.std.specs.Prelude.{ℕ, Bool, List, [], ◌++◌, length, codes, decimal, ◌==◌, if◌then◌else◌}
-use Rattle.http_front.specs.Refusal.{refusal_status, refusal_text}
+use Rattle.http_items.specs.Refusals.{text_of}
+use Rattle.http_items.specs.declared.refusals.Refusal.{Refusal}
+use Rattle.http_items.specs.declared.refusals.Refusal.TheVariants.{BadHead, BadHost, TransferCoding, BadLength, TooLarge, CutBody, BadTarget, BadMethod, NoRoute, AdmissionSpent}
 use Rattle.http_front.specs.Reported.{Reported, Replied, Exited, Trapped, OutOfBudget, RefusedAs}
+
+-- the status of a refusal (RFC 9110 sections 15.5 and 15.6)
+abbrev pub refusal_status : Refusal → ℕ
+refusal_status BadHead = 400
+refusal_status BadHost = 400
+refusal_status TransferCoding = 501
+refusal_status BadLength = 400
+refusal_status TooLarge = 413
+refusal_status CutBody = 400
+refusal_status BadTarget = 400
+refusal_status BadMethod = 405
+refusal_status NoRoute = 404
+refusal_status AdmissionSpent = 503
 
 -- the status code
 abbrev pub status_of : Reported → ℕ
@@ -9,7 +24,7 @@ status_of (Replied _) = 200
 status_of (Exited _) = 500
 status_of (Trapped _) = 500
 status_of OutOfBudget = 504
-status_of (RefusedAs n) = refusal_status n
+status_of (RefusedAs refusal) = refusal_status refusal
 
 -- the phrase beside a status code
 abbrev pub phrase_of : ℕ → List ℕ
@@ -38,7 +53,7 @@ body_of (Replied bytes) = bytes
 body_of (Exited code) = codes "exit: " ++ decimal code
 body_of (Trapped cause) = codes "trap: " ++ cause
 body_of OutOfBudget = codes "budget spent"
-body_of (RefusedAs n) = refusal_text n
+body_of (RefusedAs refusal) = text_of refusal
 
 -- the first line
 abbrev pub status_line : (status : ℕ) → List ℕ
@@ -57,15 +72,20 @@ abbrev pub close_line : (keep : Bool) → List ℕ
 close_line keep = if keep then [] else header_line (codes "Connection") (codes "close")
 
 -- the head, with the length of the body also where that is not sent
-abbrev pub head_of : Reported → (route : List ℕ) (keep : Bool) → List ℕ
-head_of r route keep =
-    status_line (status_of r)
-    ++ allow_line (status_of r)
-    ++ header_line (codes "Content-Type") (content_type_of r route)
-    ++ header_line (codes "Content-Length") (decimal (length (body_of r)))
+unfoldable pub head_of : (status : ℕ) (type : List ℕ) (size : ℕ) (keep : Bool) → List ℕ
+head_of status type size keep =
+    status_line status
+    ++ allow_line status
+    ++ header_line (codes "Content-Type") type
+    ++ header_line (codes "Content-Length") (decimal size)
     ++ close_line keep
     ++ codes "\r\n"
 
--- the whole reply; one to HEAD has no body
+-- the body as it is sent; a reply to HEAD has none
+abbrev pub sent : (head : Bool) (body : List ℕ) → List ℕ
+sent head body = if head then [] else body
+
+-- the whole reply
 unfoldable pub reply_of : Reported → (route : List ℕ) (head keep : Bool) → List ℕ
-reply_of r route head keep = head_of r route keep ++ (if head then [] else body_of r)
+reply_of r route head keep =
+    head_of (status_of r) (content_type_of r route) (length (body_of r)) keep ++ sent head (body_of r)

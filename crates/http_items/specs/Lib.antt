@@ -1,1 +1,7 @@
 pub mod Refusals
+pub mod Readers
+pub mod Heads
+pub mod Targets
+pub mod Headings
+pub mod Items
+pub mod Standings

@@ -6,6 +6,10 @@
 //! It stands on the grammar of heads of `httparse`, and on the words of `http1` for lists of options.
 #![tactic(auto)]
 
+mod laws;
+mod methods;
 mod refusals;
 
+pub use laws::{heads_of_the_grammar, items_in_order, refusals_by_number};
+pub use methods::Method;
 pub use refusals::Refusal;

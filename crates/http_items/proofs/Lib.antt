@@ -1,0 +1,6 @@
+pub mod ReaderLaws
+pub mod HeadLaws
+pub mod FrontLaws
+pub mod ItemLaws
+pub mod StandingLaws
+mod ItemExamples

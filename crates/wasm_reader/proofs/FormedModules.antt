@@ -25,7 +25,7 @@ use Rattle.wasm_reader.specs.declared.imports.ImportKind.TheVariants as kind
 use Rattle.wasm_reader.specs.declared.sections.Part.{Part}
 use Rattle.wasm_reader.specs.declared.sections.Part.TheVariants as part
 use Rattle.wasm_reader.specs.Syntax.{Syntax, bytes, checked, or_fault, ReadsItems}
-use Rattle.wasm_reader.specs.Parts.{this, tag, name, value_type, flag_of, mutability, greatest, bounds, table, memory, constant_of, no_constant, constant_bits, as_constant, constant, result_of, as_function_type, function_type}
+use Rattle.wasm_reader.specs.Parts.{this, tag, name, value_type, flag_of, mutability, greatest, bounds, table, memory, constant_of, no_constant, constant_bits, as_constant, constant, result_type, as_function_type, function_type}
 use Rattle.wasm_reader.specs.Contents.{kind_of, with_room, import_item, as_import, import_behind, next_import, has_room, imports, functions, as_global, global, globals, as_kind, as_export, export, as_element, element, as_segment, segment}
 use Rattle.wasm_reader.specs.Bodies.{body, sized_body, same_count, bodies}
 use Rattle.wasm_reader.specs.Modules.{opens_with, always, magic, version, header, SpellsModule}
@@ -33,7 +33,7 @@ use Rattle.wasm_reader.specs.Structure.{Held, ReadsSection, AreSections, is_part
 use Rattle.wasm_reader.specs.Imports.{kind_of_import}
 use Rattle.wasm_reader.proofs.ImportCounts.{functions_more, globals_more, function_counts, global_counts, functions_room, globals_room}
 use Rattle.wasm_reader.proofs.StructureLaws.{module_structure}
-use Rattle.wasm_reader.proofs.Yields.{HasBytes, Yields, Anything, byte_taken, byte_yields, integer_yields, number_yields, front_taken, bytes_yields, given_yields, then_yields, seen_yields, checked_yields, IsCounted, limited_yields, vector_of_yields, vector_yields, vector_within_yields}
+use Rattle.wasm_reader.proofs.Yields.{HasBytes, Yields, Anything, byte_taken, byte_yields, integer_yields, number_yields, front_taken, bytes_yields, pure_yields, then_yields, map_yields, checked_yields, IsCounted, limited_yields, vector_of_yields, vector_yields, vector_within_yields}
 
 -- a thing that passes a test, of which nothing more is known
 tested : {A B : Type 0} (test : A → Option B) (fault : (at : ℕ) → A → Fault) {s : Syntax A} {P : A → Type 0} → Yields s P → Yields (checked test fault s) Anything
@@ -68,21 +68,21 @@ mutability_yields = tested flag_of (or_fault BadKind) byte_yields
 -- Limits.
 
 greatest_yields : (has_most : Bool) → Yields (greatest has_most) Anything
-greatest_yields false = given_yields Anything None tt
-greatest_yields true = seen_yields (λ most. Some most) Anything number_yields (λ most fits. tt)
+greatest_yields false = pure_yields Anything None tt
+greatest_yields true = map_yields (λ most. Some most) Anything number_yields (λ most fits. tt)
 
 table_yields : Yields table IsTableSize
 table_yields =
     then_yields (tag_yields 0x70) (λ kind any.
     then_yields (tested flag_of (or_fault BadLimits) byte_yields) (λ has_most any.
     then_yields (limited_yields 0 most_elements) (λ least few.
-    seen_yields (bounds least) IsTableSize (greatest_yields has_most) (λ most any. from_zero least most_elements few))))
+    map_yields (bounds least) IsTableSize (greatest_yields has_most) (λ most any. from_zero least most_elements few))))
 
 memory_yields : Yields memory Anything
 memory_yields =
     then_yields (tested flag_of (or_fault BadLimits) byte_yields) (λ has_most any.
     then_yields number_yields (λ least fits.
-    seen_yields (bounds least) Anything (greatest_yields has_most) (λ most any. tt)))
+    map_yields (bounds least) Anything (greatest_yields has_most) (λ most any. tt)))
 
 -- Constants.
 
@@ -95,36 +95,36 @@ constant_yields =
     then_yields (tested constant_of (λ at b. or_fault (no_constant b) at b) byte_yields) (λ value any.
     then_yields (bits_yields value) (λ bits fits.
     then_yields (tested (this 0x0B) (or_fault BadConstant) byte_yields) (λ end any.
-    given_yields IsConstant (as_constant value bits) fits)))
+    pure_yields IsConstant (as_constant value bits) fits)))
 
 -- Function types.
 
-result_yields : (count : ℕ) → Yields (result_of count) Anything
-result_yields zero = given_yields Anything None tt
-result_yields (suc count) = seen_yields (λ value. Some value) Anything value_type_yields (λ value any. tt)
+result_yields : (count : ℕ) → Yields (result_type count) Anything
+result_yields zero = pure_yields Anything None tt
+result_yields (suc count) = map_yields (λ value. Some value) Anything value_type_yields (λ value any. tt)
 
 function_type_yields : Yields function_type IsFunctionType
 function_type_yields =
     then_yields (tag_yields 0x60) (λ form any.
     then_yields (vector_within_yields 0 most_parameters Anything value_type_yields) (λ params few.
     then_yields (limited_yields 0 most_results) (λ count any.
-    seen_yields (as_function_type params) IsFunctionType (result_yields count) (λ result any. from_zero (length params) most_parameters few.1))))
+    map_yields (as_function_type params) IsFunctionType (result_yields count) (λ result any. from_zero (length params) most_parameters few.1))))
 
 -- Imports.
 
 import_item_yields : (k : ImportKind) → Yields (import_item k) IsImportItem
-import_item_yields kind.Function = seen_yields item.Function IsImportItem number_yields (λ index fits. tt)
-import_item_yields kind.Table = seen_yields item.Table IsImportItem table_yields (λ size few. few)
-import_item_yields kind.Memory = seen_yields item.Memory IsImportItem memory_yields (λ size any. tt)
+import_item_yields kind.Function = map_yields item.Function IsImportItem number_yields (λ index fits. tt)
+import_item_yields kind.Table = map_yields item.Table IsImportItem table_yields (λ size few. few)
+import_item_yields kind.Memory = map_yields item.Memory IsImportItem memory_yields (λ size any. tt)
 import_item_yields kind.Global =
-    then_yields value_type_yields (λ value any. seen_yields (item.Global value) IsImportItem mutability_yields (λ mutable any. tt))
+    then_yields value_type_yields (λ value any. map_yields (item.Global value) IsImportItem mutability_yields (λ mutable any. tt))
 
 import_yields : (functions globals : ℕ) → Yields (import_behind functions globals) IsImport
 import_yields functions globals =
     then_yields name_yields (λ origin any.
     then_yields name_yields (λ own any.
     then_yields (tested (with_room functions globals) (or_fault TooLarge) (tested kind_of (or_fault BadKind) byte_yields)) (λ k any.
-    seen_yields (as_import origin own) IsImport (import_item_yields k) (λ i is. is))))
+    map_yields (as_import origin own) IsImport (import_item_yields k) (λ i is. is))))
 
 imports_yields : Yields imports (λ xs. AllByRecursion IsImport xs × IsCounted (length xs))
 imports_yields = vector_of_yields IsCounted IsImport number_yields (λ so_far. import_yields (imported_functions so_far) (imported_globals so_far))
@@ -190,7 +190,7 @@ global_yields : Yields global IsGlobal
 global_yields =
     then_yields value_type_yields (λ value any.
     then_yields mutability_yields (λ mutable any.
-    seen_yields (as_global value mutable) IsGlobal constant_yields (λ first is. is)))
+    map_yields (as_global value mutable) IsGlobal constant_yields (λ first is. is)))
 
 kind_chosen : (b k : ℕ) (above : Bool) → nat_lt most_kind b ≡ above → (if above then None else Some b) ≡ Some k → k ≤ most_kind
 kind_chosen b k true e is = let bad : ⊥ = cc in absurd bad
@@ -200,20 +200,20 @@ export_yields : Yields export IsExport
 export_yields =
     then_yields name_yields (λ own any.
     then_yields (checked_yields as_kind (or_fault BadKind) (λ k. k ≤ most_kind) byte_yields (λ b k any is. kind_chosen b k (nat_lt most_kind b) refl is)) (λ k few.
-    seen_yields (as_export own k) IsExport number_yields (λ index any. few)))
+    map_yields (as_export own k) IsExport number_yields (λ index any. few)))
 
 element_yields : Yields element IsElementSegment
 element_yields =
     then_yields number_yields (λ table any.
     then_yields constant_yields (λ offset is.
-    seen_yields (as_element table offset) IsElementSegment (vector_yields Anything (any_of number_yields)) (λ xs few. record { offset = is; few = few.1 })))
+    map_yields (as_element table offset) IsElementSegment (vector_yields Anything (any_of number_yields)) (λ xs few. record { offset = is; few = few.1 })))
 
 segment_yields : Yields segment IsByteSegment
 segment_yields =
     then_yields number_yields (λ memory any.
     then_yields constant_yields (λ offset is.
     then_yields number_yields (λ count any.
-    seen_yields (as_segment memory offset) IsByteSegment (bytes_yields count) (λ xs few. record { offset = is; few = few }))))
+    map_yields (as_segment memory offset) IsByteSegment (bytes_yields count) (λ xs few. record { offset = is; few = few }))))
 
 -- Bodies.
 
@@ -250,7 +250,7 @@ IfWindow None = Unit {0}
 IfWindow (Some window) = HasBytes window
 
 opened_yields : (fault : Fault) (wanted : List ℕ) → Yields (opens_with fault wanted) Anything
-opened_yields fault [] = given_yields Anything tt tt
+opened_yields fault [] = pure_yields Anything tt tt
 opened_yields fault (next ∷ more) = then_yields (tested (this next) (always fault) byte_yields) (λ found any. opened_yields fault more)
 
 header_yields : Yields header Anything

@@ -12,12 +12,12 @@ use Rattle.wasm_code.proofs.Decisions.{Decides}
 use Rattle.wasm_reader.specs.Syntax.{or_fault}
 use Rattle.wasm_reader.specs.Parts.{this}
 use Rattle.wasm_reader.specs.Modules.{always, opens_with, magic, version, header, at_start, complete, whole_module, most_bytes, SpellsModule, RefusesModule}
-use Rattle.wasm_reader.proofs.SyntaxLaws.{IsDecidedBy, byte_decided, given_decided, checked_decided, ◌⨾⨾◌}
+use Rattle.wasm_reader.proofs.SyntaxLaws.{IsDecidedBy, byte_decided, pure_decided, checked_decided, ◌⨾⨾◌}
 use Rattle.wasm_reader.proofs.StepLaws.{to_end_decided}
 use Rattle.wasm_reader.proofs.SectionLaws.{one_section_decided, one_section_takes}
 
 opens_with_decided : (fault : Fault) (wanted : List ℕ) → IsDecidedBy (opens_with fault wanted)
-opens_with_decided fault [] = given_decided tt
+opens_with_decided fault [] = pure_decided tt
 opens_with_decided fault (next ∷ more) =
     checked_decided (this next) (always fault) byte_decided ⨾⨾ λ found. opens_with_decided fault more
 
@@ -27,7 +27,7 @@ header_decided = opens_with_decided (fault_at BadMagic 0) magic ⨾⨾ λ begun.
 pub whole_module_decided : IsDecidedBy whole_module
 whole_module_decided =
     header_decided ⨾⨾ λ begun. to_end_decided at_start one_section_decided one_section_takes ⨾⨾ λ done.
-    checked_decided complete (or_fault CountsDiffer) (given_decided done)
+    checked_decided complete (or_fault CountsDiffer) (pure_decided done)
 
 -- What is decided is one of the two, in one way.
 

@@ -14,9 +14,9 @@ use Rattle.wasm_code.specs.Reading.{Read, ReadsByte, LacksByte}
 use Rattle.wasm_code.specs.Types.{type_of, no_type, typed}
 use Rattle.wasm_code.proofs.Decisions.{Decides, read_same, fault_same, and_then_decides, byte_decides}
 use Rattle.wasm_reader.specs.Syntax.{or_fault}
-use Rattle.wasm_reader.specs.Parts.{this, tag, name, value_type, flag_of, mutability, greatest, bounds, limits, table, memory, constant_of, no_constant, constant_bits, as_constant, constant, result_of, as_function_type, function_type}
+use Rattle.wasm_reader.specs.Parts.{this, tag, name, value_type, flag_of, mutability, greatest, bounds, limits, table, memory, constant_of, no_constant, constant_bits, as_constant, constant, result_type, as_function_type, function_type}
 use Rattle.wasm_reader.specs.Syntax.{Syntax}
-use Rattle.wasm_reader.proofs.SyntaxLaws.{IsDecidedBy, byte_decided, integer_decided, number_decided, given_decided, seen_decided, known_decides, checked_decided, ◌⨾⨾◌}
+use Rattle.wasm_reader.proofs.SyntaxLaws.{IsDecidedBy, byte_decided, integer_decided, number_decided, pure_decided, map_decided, known_decides, checked_decided, ◌⨾⨾◌}
 use Rattle.wasm_reader.proofs.ItemLaws.{limited_decided, vector_within_decided}
 
 pub tag_decided : (wanted : ℕ) → IsDecidedBy (tag wanted)
@@ -82,12 +82,12 @@ mutability_decided = checked_decided flag_of (or_fault BadKind) byte_decided
 -- Limits.
 
 greatest_decided : (has_most : Bool) → IsDecidedBy (greatest has_most)
-greatest_decided false = given_decided None
-greatest_decided true = seen_decided (λ most. Some most) number_decided
+greatest_decided false = pure_decided None
+greatest_decided true = map_decided (λ most. Some most) number_decided
 
 pub limits_decided : {least_size : Syntax ℕ} → IsDecidedBy least_size → IsDecidedBy (limits least_size)
 limits_decided least_decided =
-    checked_decided flag_of (or_fault BadLimits) byte_decided ⨾⨾ λ has_most. least_decided ⨾⨾ λ least. seen_decided (bounds least) (greatest_decided has_most)
+    checked_decided flag_of (or_fault BadLimits) byte_decided ⨾⨾ λ has_most. least_decided ⨾⨾ λ least. map_decided (bounds least) (greatest_decided has_most)
 
 pub table_decided : IsDecidedBy table
 table_decided = tag_decided 0x70 ⨾⨾ λ kind. limits_decided (limited_decided 0 most_elements)
@@ -104,15 +104,15 @@ bits_decided I64 = integer_decided Signed 64 (omega arith)
 pub constant_decided : IsDecidedBy constant
 constant_decided =
     checked_decided constant_of (λ at b. or_fault (no_constant b) at b) byte_decided ⨾⨾ λ value. bits_decided value ⨾⨾ λ bits.
-    checked_decided (this 0x0B) (or_fault BadConstant) byte_decided ⨾⨾ λ end. given_decided (as_constant value bits)
+    checked_decided (this 0x0B) (or_fault BadConstant) byte_decided ⨾⨾ λ end. pure_decided (as_constant value bits)
 
 -- Function types.
 
-result_decided : (count : ℕ) → IsDecidedBy (result_of count)
-result_decided zero = given_decided None
-result_decided (suc count) = seen_decided (λ value. Some value) value_type_decided
+result_decided : (count : ℕ) → IsDecidedBy (result_type count)
+result_decided zero = pure_decided None
+result_decided (suc count) = map_decided (λ value. Some value) value_type_decided
 
 pub function_type_decided : IsDecidedBy function_type
 function_type_decided =
     tag_decided 0x60 ⨾⨾ λ form. vector_within_decided 0 most_parameters value_type_decided ⨾⨾ λ params. limited_decided 0 most_results ⨾⨾ λ count.
-    seen_decided (as_function_type params) (result_decided count)
+    map_decided (as_function_type params) (result_decided count)

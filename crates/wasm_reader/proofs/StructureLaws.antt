@@ -11,7 +11,7 @@ use Rattle.wasm_reader.specs.declared.sections.Part.TheVariants as part
 use Rattle.wasm_reader.specs.declared.sections.Section.{Section}
 use Rattle.wasm_reader.specs.declared.sections.Section.TheVariants as section
 use Rattle.wasm_reader.specs.declared.sections.Progress.{Progress}
-use Rattle.wasm_reader.specs.Syntax.{Syntax, ReadsSteps, number, seen}
+use Rattle.wasm_reader.specs.Syntax.{Syntax, ReadsSteps, number, map}
 use Rattle.wasm_reader.specs.Contents.{types, imports, functions, tables, memories, globals, exports, elements, segments}
 use Rattle.wasm_reader.specs.Bodies.{bodies}
 use Rattle.wasm_reader.specs.Sections.{section_of, id_of, is_behind, rising, part_of, section_content, one_section}
@@ -235,7 +235,7 @@ with_start window end m z y more reads ended above is =
       memories = held.memories;
       globals = held.globals;
       exports = held.exports;
-      start = spelt_part (window_of part.Start more) (seen (λ index. Some index) number) window end m.start (Some reads.0) y.start none held.start (reads.0, reads.1, refl) ended;
+      start = spelt_part (window_of part.Start more) (map (λ index. Some index) number) window end m.start (Some reads.0) y.start none held.start (reads.0, reads.1, refl) ended;
       elements = held.elements;
       bodies = held.bodies;
       segments = held.segments;

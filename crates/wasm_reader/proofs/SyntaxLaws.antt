@@ -12,7 +12,7 @@ use Rattle.wasm_ops.specs.Input.{Input, cut_short, bytes_from, window_at}
 use Rattle.wasm_ops.proofs.InputLaws.{same_input}
 use Rattle.wasm_code.specs.Reading.{Read, and_then}
 use Rattle.wasm_code.proofs.Decisions.{Decides, read_parts, read_same, fault_same, and_then_decides, told_decides, as_part_decides, stands_decides, byte_decides, number_decides}
-use Rattle.wasm_reader.specs.Syntax.{Syntax, byte, integer, number, ReadsBytes, LacksBytes, bytes, given, ◌⨾◌, seen, known, checked, left_at, inside, ended, exactly}
+use Rattle.wasm_reader.specs.Syntax.{Syntax, byte, integer, number, ReadsBytes, LacksBytes, bytes, pure, ◌⨾◌, map, known, checked, left_at, inside, up_to_end, exactly}
 
 -- at each place the reader of the syntax answers what is spelt there, and refuses with the fault that the bytes have, and what it answers holds there
 pub record IsDecidedBy {A : Type 0} (s : Syntax A) : Type 0 where
@@ -89,8 +89,8 @@ bytes_decided count =
 
 -- What stands there already.
 
-pub given_decided : {A : Type 0} (x : A) → IsDecidedBy (given x)
-given_decided x = record { decides = λ before. stands_decides x before }
+pub pure_decided : {A : Type 0} (x : A) → IsDecidedBy (pure x)
+pure_decided x = record { decides = λ before. stands_decides x before }
 
 -- One thing behind another.
 
@@ -104,8 +104,8 @@ pub ◌⨾⨾◌ : {A B : Type 0} {first : Syntax A} {next : A → Syntax B} →
           (one.decides before) (λ x there reads. (other x).decides there);
     }
 
-pub seen_decided : {A B : Type 0} (view : A → B) {s : Syntax A} → IsDecidedBy s → IsDecidedBy (seen view s)
-seen_decided view {s} one =
+pub map_decided : {A B : Type 0} (view : A → B) {s : Syntax A} → IsDecidedBy s → IsDecidedBy (map view s)
+map_decided view {s} one =
     record { decides = λ before. as_part_decides view (s.read before) (s.Reads before) (s.Refuses before) (one.decides before) }
 
 -- What a test makes of a thing.
@@ -212,17 +212,17 @@ inside_decided {A} count why {s} one =
 abbrev LeavesMore : (why : Refusal) → (at : ℕ) → (left : List ℕ) → Fault → Type 0
 LeavesMore why at left fault = (next : ℕ) × (rest : List ℕ) × (left ≡ next ∷ rest) × (fault ≡ fault_at why at)
 
-ended_decides
+up_to_end_decides
     : {A : Type 0} (why : Refusal) (x : A) (there : Input) (left : List ℕ)
-    → Decides A (ended why x there left) (λ y after. (y ≡ x) × (after ≡ there) × (left ≡ [])) (LeavesMore why there.at left)
-ended_decides why x there [] =
+    → Decides A (up_to_end why x there left) (λ y after. (y ≡ x) × (after ≡ there) × (left ≡ [])) (LeavesMore why there.at left)
+up_to_end_decides why x there [] =
     record {
       found = λ y after e. let parts = read_parts x y there after e in (sym parts.0, sym parts.1, refl);
       only = λ y after reads. read_same x y there after (sym reads.0) (sym reads.1);
       refused = λ fault e. let bad : ⊥ = cc in absurd bad;
       only_refused = λ fault more. let left = more.2 in let bad : ⊥ = cc in absurd bad;
     }
-ended_decides why x there (next ∷ rest) =
+up_to_end_decides why x there (next ∷ rest) =
     record {
       found = λ y after e. let bad : ⊥ = cc in absurd bad;
       only = λ y after reads. let none = reads.2 in let bad : ⊥ = cc in absurd bad;
@@ -234,10 +234,10 @@ pub exactly_decided : {A : Type 0} (why : Refusal) {s : Syntax A} → IsDecidedB
 exactly_decided {A} why {s} one =
     record {
       decides = λ before.
-          let next : A → Input → Read A = λ x there. ended why x there there.left in
+          let next : A → Input → Read A = λ x there. up_to_end why x there there.left in
           let Behind : A → Input → A → Input → Type 0 = λ x there y after. (y ≡ x) × (after ≡ there) × (there.left ≡ []) in
           let both = and_then_decides (s.read before) next (s.Reads before) (s.Refuses before) Behind (λ x there fault. LeavesMore why there.at there.left fault)
-          (one.decides before) (λ x there reads. ended_decides why x there there.left) in
+          (one.decides before) (λ x there reads. up_to_end_decides why x there there.left) in
           told_decides (and_then (s.read before) next)
           (λ y after. (x : A) × (there : Input) × s.Reads before x there × Behind x there y after)
           ((exactly why s).Reads before)

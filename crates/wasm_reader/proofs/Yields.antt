@@ -11,7 +11,7 @@ use Rattle.wasm_ops.specs.Input.{Input}
 use Rattle.wasm_ops.proofs.ByteLaws.{spelt_below, spelt_bytes}
 use Rattle.wasm_ops.proofs.InputLaws.{spelt-shorter}
 use Rattle.wasm_code.specs.Reading.{ReadsByte}
-use Rattle.wasm_reader.specs.Syntax.{Syntax, byte, integer, number, bytes, given, ◌⨾◌, seen, checked, or_fault, ReadsItems, items, within_limit, limited, vector_of, vector, vector_within}
+use Rattle.wasm_reader.specs.Syntax.{Syntax, byte, integer, number, bytes, pure, ◌⨾◌, map, checked, or_fault, ReadsItems, items, within_limit, limited, vector_of, vector, vector_within}
 
 -- both parts of a list
 
@@ -79,8 +79,8 @@ bytes_yields count =
       yields = λ before xs after has reads. let parts = front_taken before xs after has reads.cut in (parts.1, parts.2);
     }
 
-pub given_yields : {A : Type 0} (P : A → Type 0) (x : A) → P x → Yields (given x) P
-given_yields P x holds = record { yields = λ before y after has reads. (subst P (sym reads.0) holds, subst HasBytes (sym reads.1) has) }
+pub pure_yields : {A : Type 0} (P : A → Type 0) (x : A) → P x → Yields (pure x) P
+pure_yields P x holds = record { yields = λ before y after has reads. (subst P (sym reads.0) holds, subst HasBytes (sym reads.1) has) }
 
 pub then_yields
     : {A B : Type 0} {first : Syntax A} {next : A → Syntax B} {P : A → Type 0} {Q : B → Type 0}
@@ -92,9 +92,9 @@ then_yields one other =
           (other reads.0 first.0).yields reads.1 y after first.1 reads.3;
     }
 
-pub seen_yields
-    : {A B : Type 0} (view : A → B) {s : Syntax A} {P : A → Type 0} (Q : B → Type 0) → Yields s P → ((x : A) → P x → Q (view x)) → Yields (seen view s) Q
-seen_yields view Q one holds =
+pub map_yields
+    : {A B : Type 0} (view : A → B) {s : Syntax A} {P : A → Type 0} (Q : B → Type 0) → Yields s P → ((x : A) → P x → Q (view x)) → Yields (map view s) Q
+map_yields view Q one holds =
     record {
       yields = λ before y after has reads.
           let first = one.yields before reads.0 after has reads.1 in

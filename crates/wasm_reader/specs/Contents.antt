@@ -15,7 +15,7 @@ use Rattle.wasm_ops.specs.declared.types.ValType.{ValType}
 use Rattle.wasm_ops.specs.Limits.{most_types, most_functions, most_globals, most_kind, imported_functions, imported_globals}
 use Rattle.wasm_reader.specs.declared.imports.ImportKind.{ImportKind}
 use Rattle.wasm_reader.specs.declared.imports.ImportKind.TheVariants as kind
-use Rattle.wasm_reader.specs.Syntax.{Syntax, byte, bytes, number, seen, checked, or_fault, items, vector, vector_within, ◌⨾◌}
+use Rattle.wasm_reader.specs.Syntax.{Syntax, byte, bytes, number, map, checked, or_fault, items, vector, vector_within, ◌⨾◌}
 use Rattle.wasm_reader.specs.Parts.{name, value_type, mutability, table, memory, constant, function_type}
 
 abbrev pub types : Syntax (List FuncType)
@@ -41,17 +41,17 @@ abbrev pub import_kind : (functions globals : ℕ) → Syntax ImportKind
 import_kind functions globals = checked (with_room functions globals) (or_fault TooLarge) (checked kind_of (or_fault BadKind) byte)
 
 abbrev pub import_item : ImportKind → Syntax ImportItem
-import_item kind.Function = seen item.Function number
-import_item kind.Table = seen item.Table table
-import_item kind.Memory = seen item.Memory memory
-import_item kind.Global = value_type ⨾ λ value. seen (item.Global value) mutability
+import_item kind.Function = map item.Function number
+import_item kind.Table = map item.Table table
+import_item kind.Memory = map item.Memory memory
+import_item kind.Global = value_type ⨾ λ value. map (item.Global value) mutability
 
 abbrev pub as_import : (origin name : List ℕ) → ImportItem → Import
 as_import origin name item = record { «module» = origin; name = name; item = item }
 
 abbrev pub import_behind : (functions globals : ℕ) → Syntax Import
 import_behind functions globals =
-    name ⨾ λ origin. name ⨾ λ own. import_kind functions globals ⨾ λ k. seen (as_import origin own) (import_item k)
+    name ⨾ λ origin. name ⨾ λ own. import_kind functions globals ⨾ λ k. map (as_import origin own) (import_item k)
 
 abbrev pub next_import : (so_far : List Import) → Syntax Import
 next_import so_far = import_behind (imported_functions so_far) (imported_globals so_far)
@@ -73,7 +73,7 @@ abbrev pub as_global : ValType → Bool → Constant → GlobalDef
 as_global value mutable first = record { value = value; mutable = mutable; first = first }
 
 abbrev pub global : Syntax GlobalDef
-global = value_type ⨾ λ value. mutability ⨾ λ mutable. seen (as_global value mutable) constant
+global = value_type ⨾ λ value. mutability ⨾ λ mutable. map (as_global value mutable) constant
 
 abbrev pub globals : List Import → Syntax (List GlobalDef)
 globals imported = vector_within (imported_globals imported) most_globals global
@@ -86,7 +86,7 @@ abbrev pub as_export : (name : List ℕ) → (kind index : ℕ) → Export
 as_export name kind index = record { name = name; kind = kind; index = index }
 
 abbrev pub export : Syntax Export
-export = name ⨾ λ own. checked as_kind (or_fault BadKind) byte ⨾ λ k. seen (as_export own k) number
+export = name ⨾ λ own. checked as_kind (or_fault BadKind) byte ⨾ λ k. map (as_export own k) number
 
 abbrev pub exports : Syntax (List Export)
 exports = vector export
@@ -95,7 +95,7 @@ abbrev pub as_element : ℕ → Constant → List ℕ → ElementSegment
 as_element table offset functions = record { table = table; offset = offset; functions = functions }
 
 abbrev pub element : Syntax ElementSegment
-element = number ⨾ λ table. constant ⨾ λ offset. seen (as_element table offset) (vector number)
+element = number ⨾ λ table. constant ⨾ λ offset. map (as_element table offset) (vector number)
 
 abbrev pub elements : Syntax (List ElementSegment)
 elements = vector element
@@ -104,7 +104,7 @@ abbrev pub as_segment : ℕ → Constant → List ℕ → ByteSegment
 as_segment memory offset bytes = record { memory = memory; offset = offset; bytes = bytes }
 
 abbrev pub segment : Syntax ByteSegment
-segment = number ⨾ λ memory. constant ⨾ λ offset. number ⨾ λ count. seen (as_segment memory offset) (bytes count)
+segment = number ⨾ λ memory. constant ⨾ λ offset. number ⨾ λ count. map (as_segment memory offset) (bytes count)
 
 abbrev pub segments : Syntax (List ByteSegment)
 segments = vector segment

@@ -7,7 +7,7 @@ use Rattle.wasm_ops.specs.Refusals.{fault_at}
 use Rattle.wasm_ops.specs.Input.{Input}
 use Rattle.wasm_code.specs.Bodies.{beginning}
 use Rattle.wasm_reader.specs.declared.sections.Progress.{Progress}
-use Rattle.wasm_reader.specs.Syntax.{Syntax, byte, given, checked, or_fault, to_end, ◌⨾◌}
+use Rattle.wasm_reader.specs.Syntax.{Syntax, byte, pure, checked, or_fault, to_end, ◌⨾◌}
 use Rattle.wasm_reader.specs.Parts.{this}
 use Rattle.wasm_reader.specs.Sections.{one_section}
 
@@ -16,7 +16,7 @@ abbrev pub always : {A : Type 0} → Fault → (at : ℕ) → A → Fault
 always fault at x = fault
 
 abbrev pub opens_with : Fault → List ℕ → Syntax (Unit {0})
-opens_with fault [] = given tt
+opens_with fault [] = pure tt
 opens_with fault (wanted ∷ more) = checked (this wanted) (always fault) byte ⨾ λ found. opens_with fault more
 
 -- the header: `\0asm`, and the version 1
@@ -55,7 +55,7 @@ complete done = if length done.parts.bodies == length done.parts.functions then 
 -- the header, the sections up to the end, and at the end as many bodies as functions
 abbrev pub whole_module : Syntax Module
 whole_module =
-    header ⨾ λ begun. to_end one_section at_start ⨾ λ done. checked complete (or_fault CountsDiffer) (given done)
+    header ⨾ λ begun. to_end one_section at_start ⨾ λ done. checked complete (or_fault CountsDiffer) (pure done)
 
 -- the most bytes of a module: 4 MiB
 abbrev pub most_bytes : ℕ

@@ -11,7 +11,7 @@ use Rattle.wasm_ops.specs.declared.types.ValType.TheVariants.{I32, I64}
 use Rattle.wasm_ops.specs.Limits.{most_elements, most_parameters, most_results}
 use Rattle.wasm_ops.specs.NameInput.{ReadsText, RefusesName, text_from}
 use Rattle.wasm_code.specs.Types.{ReadsType, RefusesType, type_from}
-use Rattle.wasm_reader.specs.Syntax.{Syntax, byte, integer, number, given, seen, checked, or_fault, limited, vector_within, ◌⨾◌}
+use Rattle.wasm_reader.specs.Syntax.{Syntax, byte, integer, number, pure, map, checked, or_fault, limited, vector_within, ◌⨾◌}
 
 -- just this byte
 abbrev pub this : (wanted found : ℕ) → Option ℕ
@@ -39,14 +39,14 @@ mutability = checked flag_of (or_fault BadKind) byte
 
 -- limits: whether they have a greatest size, the least one, and the greatest
 abbrev pub greatest : Bool → Syntax (Option ℕ)
-greatest false = given None
-greatest true = seen (λ most. Some most) number
+greatest false = pure None
+greatest true = map (λ most. Some most) number
 
 abbrev pub bounds : ℕ → Option ℕ → Limits
 bounds least most = record { least = least; most = most }
 
 abbrev pub limits : (least_size : Syntax ℕ) → Syntax Limits
-limits least_size = checked flag_of (or_fault BadLimits) byte ⨾ λ has_most. least_size ⨾ λ least. seen (bounds least) (greatest has_most)
+limits least_size = checked flag_of (or_fault BadLimits) byte ⨾ λ has_most. least_size ⨾ λ least. map (bounds least) (greatest has_most)
 
 abbrev pub table : Syntax Limits
 table = tag 0x70 ⨾ λ kind. limits (limited 0 most_elements)
@@ -72,12 +72,12 @@ as_constant value bits = record { value = value; bits = bits }
 abbrev pub constant : Syntax Constant
 constant =
     checked constant_of (λ at b. or_fault (no_constant b) at b) byte ⨾ λ value. constant_bits value ⨾ λ bits.
-    checked (this 0x0B) (or_fault BadConstant) byte ⨾ λ end. given (as_constant value bits)
+    checked (this 0x0B) (or_fault BadConstant) byte ⨾ λ end. pure (as_constant value bits)
 
 -- the result, where there is one
-abbrev pub result_of : (count : ℕ) → Syntax (Option ValType)
-result_of zero = given None
-result_of (suc count) = seen (λ value. Some value) value_type
+abbrev pub result_type : (count : ℕ) → Syntax (Option ValType)
+result_type zero = pure None
+result_type (suc count) = map (λ value. Some value) value_type
 
 abbrev pub as_function_type : List ValType → Option ValType → FuncType
 as_function_type params result = record { params = params; result = result }
@@ -85,4 +85,4 @@ as_function_type params result = record { params = params; result = result }
 abbrev pub function_type : Syntax FuncType
 function_type =
     tag 0x60 ⨾ λ form. vector_within 0 most_parameters value_type ⨾ λ params. limited 0 most_results ⨾ λ count.
-    seen (as_function_type params) (result_of count)
+    map (as_function_type params) (result_type count)

@@ -7,7 +7,7 @@ use Rattle.wasm_reader.specs.declared.sections.Part.TheVariants as part
 use Rattle.wasm_reader.specs.declared.sections.Section.{Section}
 use Rattle.wasm_reader.specs.declared.sections.Section.TheVariants as section
 use Rattle.wasm_reader.specs.declared.sections.Progress.{Progress}
-use Rattle.wasm_reader.specs.Syntax.{Syntax, byte, number, given, seen, checked, or_fault, inside, exactly, ◌⨾◌}
+use Rattle.wasm_reader.specs.Syntax.{Syntax, byte, number, pure, map, checked, or_fault, inside, exactly, ◌⨾◌}
 use Rattle.wasm_reader.specs.Parts.{name}
 use Rattle.wasm_reader.specs.Contents.{types, imports, functions, tables, memories, globals, exports, elements, segments}
 use Rattle.wasm_reader.specs.Bodies.{bodies}
@@ -57,25 +57,25 @@ section_id last = checked (rising last) (or_fault SectionOrder) (checked section
 
 -- the module with one more part, from what stands in the section
 abbrev pub part_of : Part → Module → Syntax Module
-part_of part.Types m = seen (λ xs. record m { types = xs }) types
-part_of part.Imports m = seen (λ xs. record m { imports = xs }) imports
-part_of part.Functions m = seen (λ xs. record m { functions = xs }) (functions m.imports)
-part_of part.Tables m = seen (λ xs. record m { tables = xs }) tables
-part_of part.Memories m = seen (λ xs. record m { memories = xs }) memories
-part_of part.Globals m = seen (λ xs. record m { globals = xs }) (globals m.imports)
-part_of part.Exports m = seen (λ xs. record m { exports = xs }) exports
-part_of part.Start m = seen (λ index. record m { start = Some index }) number
-part_of part.Elements m = seen (λ xs. record m { elements = xs }) elements
-part_of part.Bodies m = seen (λ xs. record m { bodies = xs }) (bodies (length m.functions))
-part_of part.Segments m = seen (λ xs. record m { segments = xs }) segments
+part_of part.Types m = map (λ xs. record m { types = xs }) types
+part_of part.Imports m = map (λ xs. record m { imports = xs }) imports
+part_of part.Functions m = map (λ xs. record m { functions = xs }) (functions m.imports)
+part_of part.Tables m = map (λ xs. record m { tables = xs }) tables
+part_of part.Memories m = map (λ xs. record m { memories = xs }) memories
+part_of part.Globals m = map (λ xs. record m { globals = xs }) (globals m.imports)
+part_of part.Exports m = map (λ xs. record m { exports = xs }) exports
+part_of part.Start m = map (λ index. record m { start = Some index }) number
+part_of part.Elements m = map (λ xs. record m { elements = xs }) elements
+part_of part.Bodies m = map (λ xs. record m { bodies = xs }) (bodies (length m.functions))
+part_of part.Segments m = map (λ xs. record m { segments = xs }) segments
 
 abbrev pub after_part : Part → Module → Progress
 after_part p m = record { last = Some p; parts = m }
 
 -- what stands in a section: a custom one begins with a name, and its other bytes are not read; any other one is read to its end
 abbrev pub section_content : Section → Progress → Syntax Progress
-section_content section.Custom so_far = name ⨾ λ own. given so_far
-section_content (section.Part p) so_far = seen (after_part p) (exactly SectionSize (part_of p so_far.parts))
+section_content section.Custom so_far = name ⨾ λ own. pure so_far
+section_content (section.Part p) so_far = map (after_part p) (exactly SectionSize (part_of p so_far.parts))
 
 -- a section: its id, the size of what it holds, and that; an item that passes the section's end is refused for its size
 abbrev pub one_section : (so_far : Progress) → Syntax Progress

@@ -10,7 +10,7 @@ use Rattle.wasm_reader.specs.declared.sections.Part.{Part}
 use Rattle.wasm_reader.specs.declared.sections.Part.TheVariants as part
 use Rattle.wasm_reader.specs.declared.sections.Section.{Section}
 use Rattle.wasm_reader.specs.declared.sections.Section.TheVariants as section
-use Rattle.wasm_reader.specs.Syntax.{Syntax, number, seen, ReadsBytes}
+use Rattle.wasm_reader.specs.Syntax.{Syntax, number, map, ReadsBytes}
 use Rattle.wasm_reader.specs.Parts.{name}
 use Rattle.wasm_reader.specs.Contents.{types, imports, functions, tables, memories, globals, exports, elements, segments}
 use Rattle.wasm_reader.specs.Bodies.{bodies}
@@ -86,7 +86,7 @@ pub record AreParts (sections : List Held) (none m : Module) : Type 0 where
   pub memories : IsPart (window_of part.Memories sections) memories none.memories m.memories
   pub globals : IsPart (window_of part.Globals sections) (globals m.imports) none.globals m.globals
   pub exports : IsPart (window_of part.Exports sections) exports none.exports m.exports
-  pub start : IsPart (window_of part.Start sections) (seen (λ index. Some index) number) none.start m.start
+  pub start : IsPart (window_of part.Start sections) (map (λ index. Some index) number) none.start m.start
   pub elements : IsPart (window_of part.Elements sections) elements none.elements m.elements
   pub bodies : IsPart (window_of part.Bodies sections) (bodies (length m.functions)) none.bodies m.bodies
   pub segments : IsPart (window_of part.Segments sections) segments none.segments m.segments

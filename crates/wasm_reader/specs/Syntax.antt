@@ -44,8 +44,8 @@ abbrev pub bytes : (count : ℕ) → Syntax (List ℕ)
 bytes count = record { Reads = ReadsBytes count; Refuses = LacksBytes count; read = bytes_from count }
 
 -- this, spelt by no byte at all
-abbrev pub given : {A : Type 0} → A → Syntax A
-given x = record {
+abbrev pub pure : {A : Type 0} → A → Syntax A
+pure x = record {
   Reads = λ before y after. (y ≡ x) × (after ≡ before);
   Refuses = λ before fault. ⊥;
   read = λ before. Ok (x, before);
@@ -61,8 +61,8 @@ first ⨾ next = record {
 }
 
 -- the same things, seen otherwise
-abbrev pub seen : {A B : Type 0} → (A → B) → Syntax A → Syntax B
-seen view syntax_of = record {
+abbrev pub map : {A B : Type 0} → (A → B) → Syntax A → Syntax B
+map view syntax_of = record {
   Reads = λ before y after. (x : _) × syntax_of.Reads before x after × (y ≡ view x);
   Refuses = λ before fault. syntax_of.Refuses before fault;
   read = λ before. as_part view (syntax_of.read before);
@@ -148,9 +148,9 @@ inside count cut syntax_of = record {
 }
 
 -- a thing up to the end of the window; else this refusal at the first byte that is left over
-abbrev pub ended : {A : Type 0} → (why : Refusal) → A → (after : Input) → (left : List ℕ) → Read A
-ended why x after [] = Ok (x, after)
-ended why x after (next ∷ rest) = Err (fault_at why after.at)
+abbrev pub up_to_end : {A : Type 0} → (why : Refusal) → A → (after : Input) → (left : List ℕ) → Read A
+up_to_end why x after [] = Ok (x, after)
+up_to_end why x after (next ∷ rest) = Err (fault_at why after.at)
 
 abbrev pub exactly : {A : Type 0} → (why : Refusal) → Syntax A → Syntax A
 exactly why syntax_of = record {
@@ -158,7 +158,7 @@ exactly why syntax_of = record {
   Refuses = λ before fault.
       syntax_of.Refuses before fault
       ⊎ ((x : _) × (there : Input) × syntax_of.Reads before x there × (next : ℕ) × (rest : List ℕ) × (there.left ≡ next ∷ rest) × (fault ≡ fault_at why there.at));
-  read = λ before. and_then (syntax_of.read before) (λ x there. ended why x there there.left);
+  read = λ before. and_then (syntax_of.read before) (λ x there. up_to_end why x there there.left);
 }
 
 -- steps from one state to another, so many of them

@@ -8,7 +8,7 @@ ghost use Rattle.wasm_reader.specs.Outcome.{Gives};
 ghost use Rattle.wasm_reader.specs.Syntax.{checked, number, or_fault};
 
 use crate::faults::ReadFault;
-use crate::vectors::Kind;
+use crate::vectors::ItemKind;
 use std::alloc::Global;
 use wasm_code::{CodeFault, read_body};
 use wasm_ops::{Body, Cursor, Fault, Refusal};
@@ -17,7 +17,7 @@ use wasm_ops::{Body, Cursor, Fault, Refusal};
 #[derive(Clone, Copy)]
 pub(crate) struct Bodies;
 
-impl Kind for Bodies {
+impl ItemKind for Bodies {
     type Item = Body;
 
     ghost syntax = { λ _. sized_body };

@@ -10,7 +10,7 @@ ghost use Rattle.wasm_reader.specs.Syntax.{Syntax};
 use crate::faults::ReadFault;
 use crate::items::owned_name;
 use crate::parts::{memory, mutability, table};
-use crate::vectors::{Kind, vector};
+use crate::vectors::{ItemKind, vector};
 use std::alloc::Global;
 use wasm_code::value_type;
 use wasm_ops::{Cursor, Fault, Import, ImportItem, Refusal};
@@ -23,7 +23,7 @@ pub(crate) const MOST_GLOBALS: u32 = 1_000;
 
 /// What an import is, as its kind byte says (section 5.5.5).
 #[derive(Clone, Copy, Debug, PartialEq, Eq)]
-pub enum ImportKind {
+pub(crate) enum ImportKind {
     /// A function (00).
     Function,
 
@@ -64,12 +64,12 @@ impl ImportKind {
 
 /// How many functions and globals are imported, for the imports that came before. Imports are a kind of things of which a vector is made.
 #[derive(Clone, Copy)]
-pub struct Imported {
+pub(crate) struct Imported {
     /// How many of them are functions.
-    pub functions: u64,
+    pub(crate) functions: u64,
 
     /// How many of them are globals.
-    pub globals: u64,
+    pub(crate) globals: u64,
 }
 
 impl Imported {
@@ -128,7 +128,7 @@ impl Imported {
     }
 }
 
-impl Kind for Imported {
+impl ItemKind for Imported {
     type Item = Import;
 
     ghost syntax = { λ imported. import_behind imported.functions imported.globals };

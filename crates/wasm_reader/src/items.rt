@@ -3,12 +3,12 @@ ghost use Rattle.wasm_ops.specs.declared.faults.Refusal.TheVariants.{BadKind};
 ghost use Rattle.wasm_code.specs.Faults.{Tells};
 ghost use Rattle.wasm_reader.specs.Contents.{as_kind, element as element_syntax, export as export_syntax, global as global_syntax, segment as segment_syntax};
 ghost use Rattle.wasm_reader.specs.Outcome.{Gives};
-ghost use Rattle.wasm_reader.specs.Parts.{function_type as function_type_syntax, memory as memory_syntax, name as name_syntax, result_of, table as table_syntax, value_type as value_type_syntax};
+ghost use Rattle.wasm_reader.specs.Parts.{function_type as function_type_syntax, memory as memory_syntax, name as name_syntax, result_type as result_type_syntax, table as table_syntax, value_type as value_type_syntax};
 ghost use Rattle.wasm_reader.specs.Syntax.{byte, checked, number, or_fault};
 
 use crate::faults::ReadFault;
 use crate::parts::{constant, count, memory, mutability, table, tag};
-use crate::vectors::{Kind, vector, vector_within};
+use crate::vectors::{ItemKind, vector, vector_within};
 use std::alloc::Global;
 use wasm_code::value_type;
 use wasm_ops::{
@@ -29,7 +29,7 @@ const MOST_KIND: u8 = 3;
 #[derive(Clone, Copy)]
 pub(crate) struct Indices;
 
-impl Kind for Indices {
+impl ItemKind for Indices {
     type Item = u32;
 
     ghost syntax = { λ _. number };
@@ -45,7 +45,7 @@ impl Kind for Indices {
 #[derive(Clone, Copy)]
 pub(crate) struct ValueTypes;
 
-impl Kind for ValueTypes {
+impl ItemKind for ValueTypes {
     type Item = ValType;
 
     ghost syntax = { λ _. value_type_syntax };
@@ -61,7 +61,7 @@ impl Kind for ValueTypes {
 #[derive(Clone, Copy)]
 pub(crate) struct FunctionTypes;
 
-impl Kind for FunctionTypes {
+impl ItemKind for FunctionTypes {
     type Item = FuncType;
 
     ghost syntax = { λ _. function_type_syntax };
@@ -82,7 +82,7 @@ impl Kind for FunctionTypes {
 
 // The type of the result, where there is one.
 fn result_type(count: u32, cursor: &mut Cursor<'_>) -> Result<Option<ValType>, Fault>
-    ensures { Tells (λ result. (result, cursor.new)) result ((result_of count).read cursor.old) }
+    ensures { Tells (λ result. (result, cursor.new)) result ((result_type_syntax count).read cursor.old) }
 {
     if count == 0 {
         return Ok(None);
@@ -94,7 +94,7 @@ fn result_type(count: u32, cursor: &mut Cursor<'_>) -> Result<Option<ValType>, F
 #[derive(Clone, Copy)]
 pub(crate) struct Tables;
 
-impl Kind for Tables {
+impl ItemKind for Tables {
     type Item = Limits;
 
     ghost syntax = { λ _. table_syntax };
@@ -110,7 +110,7 @@ impl Kind for Tables {
 #[derive(Clone, Copy)]
 pub(crate) struct Memories;
 
-impl Kind for Memories {
+impl ItemKind for Memories {
     type Item = Limits;
 
     ghost syntax = { λ _. memory_syntax };
@@ -126,7 +126,7 @@ impl Kind for Memories {
 #[derive(Clone, Copy)]
 pub(crate) struct Globals;
 
-impl Kind for Globals {
+impl ItemKind for Globals {
     type Item = GlobalDef;
 
     ghost syntax = { λ _. global_syntax };
@@ -149,7 +149,7 @@ impl Kind for Globals {
 #[derive(Clone, Copy)]
 pub(crate) struct Exports;
 
-impl Kind for Exports {
+impl ItemKind for Exports {
     type Item = Export;
 
     ghost syntax = { λ _. export_syntax };
@@ -188,7 +188,7 @@ pub(crate) fn owned_name(alloc: Global, cursor: &mut Cursor<'_>) -> Result<Name,
 #[derive(Clone, Copy)]
 pub(crate) struct ElementSegments;
 
-impl Kind for ElementSegments {
+impl ItemKind for ElementSegments {
     type Item = ElementSegment;
 
     ghost syntax = { λ _. element_syntax };
@@ -215,7 +215,7 @@ impl Kind for ElementSegments {
 #[derive(Clone, Copy)]
 pub(crate) struct DataSegments;
 
-impl Kind for DataSegments {
+impl ItemKind for DataSegments {
     type Item = ByteSegment;
 
     ghost syntax = { λ _. segment_syntax };

@@ -10,7 +10,7 @@ ghost use Rattle.wasm_code.specs.Faults.{Tells};
 ghost use Rattle.wasm_reader.specs.Modules.{SpellsModule, RefusesModule, complete, header as header_syntax, opens_with as opens_with_syntax, whole_module};
 ghost use Rattle.wasm_reader.specs.Outcome.{Gives, GivesValue, GivesFault, IsAmong};
 ghost use Rattle.wasm_reader.specs.Sections.{one_section};
-ghost use Rattle.wasm_reader.specs.Syntax.{checked, given, or_fault, to_end};
+ghost use Rattle.wasm_reader.specs.Syntax.{checked, pure, or_fault, to_end};
 
 use crate::faults::ReadFault;
 use crate::sections::{Progress, read_section};
@@ -102,7 +102,7 @@ fn read_sections(
 
 // The module, which has a body for each function. Refused: `CountsDiffer` where the section of bodies is missing, at the end of the file.
 fn complete(progress: Progress, cursor: &Cursor<'_>) -> Result<Module, Fault>
-    ensures { Tells (λ parts. (parts, cursor.now)) result ((checked complete (or_fault CountsDiffer) (given progress)).read cursor.now) }
+    ensures { Tells (λ parts. (parts, cursor.now)) result ((checked complete (or_fault CountsDiffer) (pure progress)).read cursor.now) }
 {
     let module = progress.parts;
     if module.bodies.as_slice().len() != module.functions.as_slice().len() {

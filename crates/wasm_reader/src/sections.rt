@@ -20,7 +20,7 @@ const MOST_TYPES: u32 = 1_000;
 
 /// A part of a module that stands in a section of its own, in the order of the sections' ids (section 5.5.2).
 #[derive(Clone, Copy, Debug, PartialEq, Eq)]
-pub enum Part {
+pub(crate) enum Part {
     /// Function types (id 1).
     Types,
 
@@ -77,7 +77,7 @@ impl Part {
 
 /// What a section holds.
 #[derive(Clone, Copy, Debug, PartialEq, Eq)]
-pub enum Section {
+pub(crate) enum Section {
     /// A name, and bytes that mean nothing to the module (id 0).
     Custom,
 
@@ -109,12 +109,12 @@ impl Section {
 
 /// What has been read of a module.
 #[derive(Debug, Drop)]
-pub struct Progress {
+pub(crate) struct Progress {
     /// What the last section held that is not custom, if there is one yet.
-    pub last: Option<Part>,
+    pub(crate) last: Option<Part>,
 
     /// The parts so far.
-    pub parts: Module,
+    pub(crate) parts: Module,
 }
 
 impl Progress {

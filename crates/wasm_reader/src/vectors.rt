@@ -9,7 +9,7 @@ use std::alloc::Global;
 use wasm_ops::Cursor;
 
 /// What a vector is made of: things of one kind. A value of the kind keeps what has to be known of those that came before.
-pub(crate) trait Kind: Sized + Drop {
+pub(crate) trait ItemKind: Sized + Drop {
     /// One of them.
     type Item: Drop;
 
@@ -26,7 +26,7 @@ pub(crate) trait Kind: Sized + Drop {
 }
 
 /// So many things, one behind another.
-pub(crate) fn items<K: Kind>(
+pub(crate) fn items<K: ItemKind>(
     alloc: Global,
     kind: K,
     count: u32,
@@ -43,7 +43,7 @@ pub(crate) fn items<K: Kind>(
 }
 
 /// A vector: a count, and so many things.
-pub(crate) fn vector<K: Kind>(
+pub(crate) fn vector<K: ItemKind>(
     alloc: Global,
     kind: K,
     cursor: &mut Cursor<'_>,
@@ -55,7 +55,7 @@ pub(crate) fn vector<K: Kind>(
 }
 
 /// A vector of at most so many things, with those before them. Refused: `TooLarge` at its count.
-pub(crate) fn vector_within<K: Kind>(
+pub(crate) fn vector_within<K: ItemKind>(
     alloc: Global,
     before: u64,
     most: u32,

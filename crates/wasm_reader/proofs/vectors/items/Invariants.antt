@@ -7,7 +7,7 @@ abbrev pub invariant-loop : goal.invariant-loop
 invariant-loop g l =
     record {
       same :
-          items_from (l.count - l.counter) (λ so_far. g.K.Kind.syntax (kept g.K.Kind.after l.fn.kind so_far)) l.items.items l.cursor
-          ≡ items_from l.fn.count (λ so_far. g.K.Kind.syntax (kept g.K.Kind.after l.fn.kind so_far)) [] l.fn.cursor;
-      known : l.kind ≡ kept g.K.Kind.after l.fn.kind l.items.items;
+          items_from (l.count - l.counter) (λ so_far. g.K.ItemKind.syntax (kept g.K.ItemKind.after l.fn.kind so_far)) l.items.items l.cursor
+          ≡ items_from l.fn.count (λ so_far. g.K.ItemKind.syntax (kept g.K.ItemKind.after l.fn.kind so_far)) [] l.fn.cursor;
+      known : l.kind ≡ kept g.K.ItemKind.after l.fn.kind l.items.items;
     }

@@ -2,7 +2,7 @@
 ghost use Rattle.std.specs.Prelude.{◌≡◌, ◌≤◌, [], ◌∷◌, ◌++◌, ◌<◌, length, vec_len, vec_capacity, OnOk, OnErr};
 ghost use Rattle.recorded_runner.specs.Connections.{connections_of};
 ghost use Rattle.recorded_runner.specs.Following.{LinkFollows, MayFollow, IsLegal, is_open};
-ghost use Rattle.recorded_runner.specs.Standing.{links_behind, standing_behind};
+ghost use Rattle.recorded_runner.specs.Standing.{links_behind, behind, standing_behind};
 
 use crate::records::{Event, Record};
 use std::alloc::{AllocError, Global};
@@ -82,6 +82,7 @@ impl Recording {
     pub fn push(&mut self, next: Record) -> Result<(), AllocError>
         requires { MayFollow (standing_behind self.old) next }
         ensures ok { OnOk result (self.new ≡ self.old ++ next ∷ []) }
+        ensures stands { OnOk result (standing_behind self.new ≡ behind (standing_behind self.old) next) }
         ensures err { OnErr result (self.new ≡ self.old) }
     {
         self.records.try_reserve(1)?;

@@ -6,16 +6,7 @@ use std::test::Fail;
 
 const MAGIC: [u8; 4] = *b"SLR1";
 
-// The record with which a connection of tenant 0 begins.
-fn begin(link: u32) -> Record {
-    Record {
-        moment: 0,
-        link,
-        event: Event::Begins(0),
-    }
-}
-
-// The same in bytes, cut behind so many of them.
+// The record with which a connection of tenant 0 begins, in bytes, cut behind so many of them.
 fn spell_begin(bytes: &mut Vec<u8>, link: u32, size: usize) -> Result<(), Fail> {
     let [a, b, c, d] = link.to_le_bytes();
     let record = [1, 0, 0, 0, 0, a, b, c, d, 0, 0, 0, 0];
@@ -44,8 +35,12 @@ fn made_in_code(rt: HostRuntime) -> Result<(), Fail> {
     let mut recording = Recording::new(rt.alloc());
     assert_eq!(rt; (recording.last(), recording.connections()), (0, 0));
     assert!(rt; !recording.is_open(0));
-    recording.push(begin(0))?;
-    assert_eq!(rt; recording.connections(), 1);
+    recording.push(Record {
+        moment: 0,
+        link: 0,
+        event: Event::Begins(0),
+    })?;
+    assert_eq!(rt; (recording.last(), recording.connections()), (0, 1));
     assert!(rt; recording.is_open(0));
     recording.push(Record {
         moment: 7,
@@ -67,22 +62,20 @@ fn made_in_code(rt: HostRuntime) -> Result<(), Fail> {
 fn read_from_bytes(rt: HostRuntime) -> Result<(), Fail> {
     let bytes = b"SLR1\x01\x07\0\0\0\0\0\0\0\x02\0\0\0\x02\0\x01\0\0\0\0\0\0\x02\0\0\0hi\0";
     let recording = read_recording(rt.alloc(), bytes, 3)?;
-    let mut pieces = 0;
+    let mut arrived = false;
     for record in recording.records() {
         match &record.event {
             Event::Begins(tenant) => assert_eq!(rt; (record.moment, *tenant), (7, 2)),
             Event::Arrives(piece) => {
                 assert_eq!(rt; record.moment, 256);
                 assert_eq!(rt; piece.as_slice(), b"hi".as_slice());
-                pieces += 1;
+                arrived = true;
             }
             Event::Closes => assert!(rt; false, "nothing is closed"),
         }
     }
-    assert_eq!(rt;
-        (pieces, recording.last(), recording.connections()),
-        (1, 256, 1)
-    );
+    assert!(rt; arrived);
+    assert_eq!(rt; (recording.last(), recording.connections()), (256, 1));
     Ok(())
 }
 

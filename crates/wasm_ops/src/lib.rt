@@ -9,6 +9,7 @@
 mod arithmetic;
 mod cursors;
 mod faults;
+mod host_calls;
 mod i32_ops;
 mod i64_ops;
 mod int_ops;
@@ -25,6 +26,7 @@ mod types;
 pub use arithmetic::{apply_binary, apply_unary};
 pub use cursors::Cursor;
 pub use faults::{Fault, Refusal};
+pub use host_calls::{HostCall, HostName};
 pub use int_ops::IntOp;
 pub use lists::Items;
 pub use modules::{

@@ -1,0 +1,14 @@
+pub mod Bytes
+pub mod Control
+pub mod Effects
+pub mod Execution
+pub mod HostCalls
+pub mod Memory
+pub mod Numeric
+pub mod Operators
+pub mod Parametric
+pub mod Pending
+pub mod State
+pub mod Turns
+pub mod Values
+pub mod Variable

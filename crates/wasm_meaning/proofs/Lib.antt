@@ -1,1 +1,2 @@
-mod TurnExamples
+mod TypingExamples
+mod ValidityExamples

@@ -1,7 +1,12 @@
-//! What a program means: how it is linked, how it runs, and what a request gives (WebAssembly Core 1.0, chapter 4, and WASI preview1).
+//! What WebAssembly's modules mean, as definitions and laws over them.
 //!
-//! It has definitions, which stand in `specs/`, and their laws, which stand on functions that do nothing.
-//! It stands on wasm_ops alone, so that a machine, host calls and a validator can speak of one meaning.
+//! `specs/` says which modules are valid, and which rule any other one breaks first (WebAssembly Core 1.0, chapter 3): `Typing.antt` for a body, `Validity.antt` for a module.
+//! The crates above compute what is defined here; the few types and functions of `src/` are those that both speak of.
+//! It stands on `wasm_ops` alone.
 #![tactic(auto)]
 
-pub mod laws;
+mod blocks;
+mod violations;
+
+pub use blocks::{BlockKind, GlobalType};
+pub use violations::{Broken, Rule, Violation};

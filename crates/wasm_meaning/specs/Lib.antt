@@ -3,6 +3,7 @@ pub mod Control
 pub mod Effects
 pub mod Execution
 pub mod HostCalls
+pub mod Laws
 pub mod Linking
 pub mod Memory
 pub mod Numeric

@@ -1,5 +1,6 @@
 -- What the laws speak of.
-use Rattle.std.specs.Prelude.{ℕ, ◌≡◌, ◌+◌, sum}
+use Rattle.std.specs.Prelude.{ℕ, ◌≡◌, ◌+◌, ◌*◌, ◌%◌, ◌^◌, List, length, take, drop, sum, Some}
+use Rattle.wasm_meaning.specs.Bytes.{bytes_of, bytes_at, loaded}
 use Rattle.wasm_meaning.specs.Requests.{Request}
 use Rattle.wasm_meaning.specs.State.{Run}
 
@@ -14,3 +15,11 @@ with_more more run = record run { left = run.left + more }
 -- the same request with so much more budget
 abbrev pub richer : (more : ℕ) → Request → Request
 richer more request = record request { budget = request.budget + more }
+
+-- the memory behind a store of a number in so many bytes from a place on: just these bytes changed, and a load there gives the number modulo its width
+pub record Stores (memory : List ℕ) (at width n : ℕ) (after : List ℕ) : Type 0 where
+  pub length_stays : length after ≡ length memory
+  pub before_stays : take at after ≡ take at memory
+  pub behind_stays : drop (at + width) after ≡ drop (at + width) memory
+  pub bytes_are : bytes_at after at width ≡ bytes_of width n
+  pub loads_again : loaded after at width ≡ Some (n % 2 ^ (8 * width))

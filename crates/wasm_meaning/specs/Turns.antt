@@ -1,5 +1,5 @@
 -- Turns: a list of prices cut into groups, each of which a worker runs at one time. They are this project's own.
-use Rattle.std.specs.Prelude.{ℕ, ◌≡◌, ◌<◌, ◌≤◌, ◌+◌, nat_lt, if◌then◌else◌, List, [], ◌∷◌, ◌++◌, length, sum, max}
+use Rattle.std.specs.Prelude.{ℕ, ◌≡◌, ◌<◌, ◌≤◌, ◌+◌, ◌⊎◌, nat_lt, if◌then◌else◌, List, [], ◌∷◌, ◌++◌, length, sum, flat_map, max}
 
 -- a price in front of the first group
 abbrev pub joins : ℕ → List (List ℕ) → List (List ℕ)
@@ -28,3 +28,16 @@ pub record IsShortest (quantum : ℕ) (group : List ℕ) : Type 0 where
   pub is : group ≡ front ++ last ∷ []
   pub below : sum front < quantum
   pub reaches : quantum ≤ sum front + last
+
+-- the last group, which need not reach it
+abbrev pub IsLast : (quantum : ℕ) → (group : List ℕ) → Type 0
+IsLast quantum group = (sum group < quantum) ⊎ IsShortest quantum group
+
+abbrev pub AreShortest : (quantum : ℕ) → List (List ℕ) → Type 0
+AreShortest quantum [] = Unit {0}
+AreShortest quantum (group ∷ []) = IsLast quantum group
+AreShortest quantum (group ∷ next ∷ groups) = IsShortest quantum group × AreShortest quantum (next ∷ groups)
+
+-- the prices of all groups, in order
+abbrev pub joined : List (List ℕ) → List ℕ
+joined groups = flat_map (λ (group : List ℕ). group) groups

@@ -1,9 +1,10 @@
+mod BudgetExamples
 mod CallExamples
 mod ControlExamples
 mod Examples
+mod HostExamples
 mod MemoryExamples
 mod NumericExamples
-mod TurnExamples
 mod TypingExamples
 mod ValidityExamples
 mod VariableExamples

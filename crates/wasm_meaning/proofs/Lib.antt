@@ -3,8 +3,11 @@ mod CallExamples
 mod ControlExamples
 mod Examples
 mod HostExamples
+mod LinkingExamples
 mod MemoryExamples
+mod Modules
 mod NumericExamples
+mod RequestExamples
 mod TypingExamples
 mod ValidityExamples
 mod VariableExamples

@@ -8,12 +8,10 @@ use Rattle.wasm_ops.specs.declared.types.ValType.{ValType}
 use Rattle.wasm_ops.specs.declared.types.ValType.TheVariants.{I32, I64}
 use Rattle.std.specs.Prelude.{Bool, true, false}
 use Rattle.wasm_meaning.proofs.Examples.{Line, line, shown, run_in, inside, store_of, straight, memory_alone, each_paid}
+use Rattle.wasm_meaning.proofs.Modules.{access}
 use Rattle.wasm_meaning.specs.Bytes.{zeros, page}
 use Rattle.wasm_meaning.specs.State.{Fell, Trapped, Stuck}
 use Rattle.wasm_meaning.specs.Values.{Value, Int32, Int64}
-
-abbrev access : ValType → (width : ℕ) → (signed : Bool) → Access
-access value width signed = record { value = value; width = width; signed = signed }
 
 -- a memory of eight bytes
 abbrev eight_bytes : List ℕ

@@ -1,5 +1,5 @@
 -- Which bodies are typed, and which rule any other one breaks first (WebAssembly Core 1.0, section 3.3).
-use Rattle.std.specs.Prelude.{ℕ, ◌+◌, ◌^◌, Bool, true, false, nat_lt, nat_le, max, List, [], ◌∷◌, ◌++◌, length, reverse, take, drop, slice_get, if◌then◌else◌, Option, Some, None, unwrap_or, option_and_then, Result, Ok, Err}
+use Rattle.std.specs.Prelude.{ℕ, ◌+◌, ◌^◌, Bool, true, false, nat_lt, nat_le, max, List, [], ◌∷◌, ◌++◌, length, reverse, take, drop, slice_get, if◌then◌else◌, Option, Some, None, option_and_then, Result, Ok, Err}
 use Rattle.std.specs.List.{list_all}
 use Rattle.wasm_ops.specs.declared.types.ValType.{ValType}
 use Rattle.wasm_ops.specs.declared.types.ValType.TheVariants.{I32, I64}
@@ -9,9 +9,10 @@ use Rattle.wasm_ops.specs.declared.modules.Module.{Module}
 use Rattle.wasm_ops.specs.declared.modules.Body.{Body}
 use Rattle.wasm_ops.specs.declared.operators.Op.{Op}
 use Rattle.wasm_ops.specs.declared.operators.Op.TheVariants as op
+use Rattle.wasm_ops.specs.declared.operations.Operation.{Operation}
 use Rattle.wasm_ops.specs.Operations.{operation_of, operand_of, result_of}
 use Rattle.wasm_ops.specs.Sequence.{Sequence, Done, Plain, InBlock, InLoop, InIf, InIfElse}
-use Rattle.wasm_ops.specs.Nested.{nested}
+use Rattle.wasm_ops.specs.Nested.{Ahead, UpTo, AtEnd, ahead_of}
 use Rattle.wasm_meaning.specs.declared.blocks.BlockKind.{BlockKind}
 use Rattle.wasm_meaning.specs.declared.blocks.BlockKind.TheVariants.{BlockBody, LoopBody, ThenBranch, ElseBranch}
 use Rattle.wasm_meaning.specs.declared.blocks.GlobalType.{GlobalType}
@@ -71,6 +72,15 @@ store cx access align now =
     go_on (with_memory cx now) (λ there. go_on (aligned access align now) (λ fine.
     go_on (take_off (Some access.value) now) (λ after. take_off (Some I32) after)))
 
+-- an integer operator, whose byte always has an operation
+abbrev pub one_operand : Option Operation → Walk → Result Walk Violation
+one_operand None now = Ok now
+one_operand (Some o) now = unary (operand_of o) (result_of o) now
+
+abbrev pub two_operands : Option Operation → Walk → Result Walk Violation
+two_operands None now = Ok now
+two_operands (Some o) now = binary (operand_of o) (result_of o) now
+
 -- two labels take the same
 abbrev pub same_result : Option ValType → Option ValType → Bool
 same_result None None = true
@@ -123,8 +133,8 @@ plain cx op.MemorySize now = go_on (with_memory cx now) (λ there. gives I32 now
 plain cx op.MemoryGrow now = go_on (with_memory cx now) (λ there. unary I32 I32 now)
 plain cx (op.ConstI32 n) now = gives I32 now
 plain cx (op.ConstI64 n) now = gives I64 now
-plain cx (op.Unary o) now = unary (operand_of (operation_of o)) (result_of (operation_of o)) now
-plain cx (op.Binary o) now = binary (operand_of (operation_of o)) (result_of (operation_of o)) now
+plain cx (op.Unary byte) now = one_operand (operation_of byte) now
+plain cx (op.Binary byte) now = two_operands (operation_of byte) now
 -- the others open or close a block, and never stand as plain
 plain cx (op.Block result end) now = Ok now
 plain cx (op.Loop result end) now = Ok now
@@ -203,9 +213,13 @@ typed cx (InIfElse result inner other rest) now =
 
 -- Whole bodies.
 
--- the operators as nested sequences
+-- the one sequence that the operators of a body are the flat form of; others have none
+abbrev pub sequence_in : Option (List Ahead) → Sequence
+sequence_in (Some (UpTo AtEnd s ∷ [])) = s
+sequence_in ahead = Done
+
 abbrev pub nested_body : List Op → Sequence
-nested_body ops = unwrap_or (nested ops) Done
+nested_body ops = sequence_in (ahead_of ops)
 
 -- what the rules speak of in the body of a function of this type: its own label takes the result
 abbrev pub context_of : Module → FuncType → Body → Context

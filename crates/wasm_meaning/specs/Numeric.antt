@@ -17,8 +17,9 @@ abbrev pub unary_of : (one : Bool) → Operation → State → Effect
 unary_of false o st = Breaks
 unary_of true o st = unary_on o (take_off (operand_of o) st.operands) st
 
-abbrev pub unary_effect : Operation → State → Effect
-unary_effect o st = unary_of (takes_one o) o st
+abbrev pub unary_effect : Option Operation → State → Effect
+unary_effect None st = Breaks
+unary_effect (Some o) st = unary_of (takes_one o) o st
 
 -- t.binop and t.relop
 abbrev pub computed : Operation → Result ℕ Trap → State → Effect
@@ -38,5 +39,6 @@ abbrev pub binary_of : (one : Bool) → Operation → State → Effect
 binary_of true o st = Breaks
 binary_of false o st = binary_on o (take_off (operand_of o) st.operands) st
 
-abbrev pub binary_effect : Operation → State → Effect
-binary_effect o st = binary_of (takes_one o) o st
+abbrev pub binary_effect : Option Operation → State → Effect
+binary_effect None st = Breaks
+binary_effect (Some o) st = binary_of (takes_one o) o st

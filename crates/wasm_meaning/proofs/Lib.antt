@@ -12,7 +12,15 @@ mod TypingExamples
 mod ValidityExamples
 mod VariableExamples
 pub mod Budgets
+pub mod Fits
 pub mod MemoryLaws
+pub mod ModuleFacts
+pub mod Ready
 pub mod Related
 pub mod RequestLaws
+pub mod SafeControl
+pub mod SafeInstances
+pub mod SafeOperators
+pub mod SafePrograms
+pub mod SafeRuns
 pub mod TurnLaws

@@ -1,5 +1,5 @@
 -- What a module becomes when it is instantiated: a program, its instance, and the fresh state (WebAssembly Core 1.0, sections 4.5.3 and 4.5.4).
-use Rattle.std.specs.Prelude.{ℕ, ◌+◌, ◌-◌, ◌*◌, nat_lt, min, List, [], ◌∷◌, ◌++◌, length, map, take, drop, replicate, filter_map, slice_get, if◌then◌else◌, Option, Some, None, option_map, option_and_then, option_to_list, Result, Ok, Err}
+use Rattle.std.specs.Prelude.{◌≡◌, ℕ, ◌+◌, ◌-◌, ◌*◌, nat_lt, min, List, [], ◌∷◌, ◌++◌, length, map, take, drop, replicate, filter_map, slice_get, if◌then◌else◌, Option, Some, None, option_map, option_and_then, option_to_list, Result, Ok, Err}
 use Rattle.wasm_ops.specs.declared.host_calls.HostName.{HostName}
 use Rattle.wasm_ops.specs.declared.modules.Body.{Body}
 use Rattle.wasm_ops.specs.declared.modules.ByteSegment.{ByteSegment}
@@ -11,12 +11,14 @@ use Rattle.wasm_ops.specs.declared.modules.Module.{Module}
 use Rattle.wasm_ops.specs.declared.types.FuncType.{FuncType}
 use Rattle.wasm_ops.specs.declared.types.Limits.{Limits}
 use Rattle.wasm_ops.specs.Sequence.{Done}
+use Rattle.wasm_ops.specs.WellFormed.{IsWellFormed}
 use Rattle.wasm_meaning.specs.Bytes.{page, zeros, with_bytes}
 use Rattle.wasm_meaning.specs.HostCalls.{Streams}
 use Rattle.wasm_meaning.specs.Linking.{Unlinked, host_in, export_named, entry_name, first_pages, first_elements, link_refusal}
 use Rattle.wasm_meaning.specs.Pending.{Pending, entering}
 use Rattle.wasm_meaning.specs.State.{Function, Instance, Store, State}
 use Rattle.wasm_meaning.specs.Typing.{nested_body, height_of, nest_of}
+use Rattle.wasm_meaning.specs.Validity.{module_walk}
 use Rattle.wasm_meaning.specs.ValiditySpaces.{count_imported, as_function}
 use Rattle.wasm_meaning.specs.Values.{Value, value_of}
 
@@ -32,6 +34,12 @@ linked_or program (Some why) = Err why
 -- the program of a valid module, or the first refusal
 abbrev pub link : Module → (pages : ℕ) → Result Program Unlinked
 link m pages = linked_or (record { linked = m; pages = pages }) (link_refusal m pages)
+
+-- a program that was made so: its module was read, is valid, and is linked
+pub record IsProgram (program : Program) : Type 0 where
+  pub formed : IsWellFormed program.linked
+  pub valid : module_walk program.linked ≡ Ok tt
+  pub links : link_refusal program.linked program.pages ≡ None
 
 -- The instance.
 

@@ -5,14 +5,17 @@ use Rattle.wasm_ops.specs.declared.modules.Import.{Import}
 use Rattle.wasm_ops.specs.declared.modules.ImportItem.TheVariants as item
 use Rattle.wasm_ops.specs.declared.modules.Module.{Module}
 use Rattle.wasm_meaning.proofs.Modules.{bare, transfer, start_at, from_host, i32, pages, alone}
-use Rattle.wasm_meaning.specs.Linking.{Unlinked, link_refusal}
+use Rattle.wasm_meaning.specs.declared.links.LinkRule.{LinkRule}
+use Rattle.wasm_meaning.specs.declared.links.LinkRule.TheVariants.{KnownImport, ImportType, ImportKind, HasStart, StartShape, SegmentRange, FewPages}
+use Rattle.wasm_meaning.specs.declared.links.Unlinked.{Unlinked}
+use Rattle.wasm_meaning.specs.Linking.{link_refusal}
 use Rattle.wasm_meaning.specs.Programs.{most}
 
 abbrev refusal : Module → Option Unlinked
 refusal m = link_refusal m 2
 
-abbrev refused : (number item : ℕ) → Option Unlinked
-refused number item = Some (record { number = number; item = item })
+abbrev refused : (rule : LinkRule) (item : ℕ) → Option Unlinked
+refused rule item = Some (record { rule = rule; item = item })
 
 abbrev importing : List Import → Module
 importing imports = record (alone Done) { types = bare ∷ transfer ∷ []; imports = imports; exports = start_at 2 }
@@ -22,32 +25,32 @@ unfolding link_refusal
 linked = refl
 
 -- the second import is no function, none of the host's, of another module, or of another type; the kind is looked at first
-import_kind : refusal (importing (from_host (codes "fd_read") (item.Function 1) ∷ from_host (codes "fd_read") (item.Memory (record { least = 0; most = None })) ∷ [])) ≡ refused 52 1
+import_kind : refusal (importing (from_host (codes "fd_read") (item.Function 1) ∷ from_host (codes "fd_read") (item.Memory (record { least = 0; most = None })) ∷ [])) ≡ refused ImportKind 1
 unfolding link_refusal
 import_kind = refl
 
-unknown_import : refusal (importing (from_host (codes "fd_read") (item.Function 1) ∷ from_host (codes "fd_reaD") (item.Function 1) ∷ [])) ≡ refused 50 1
+unknown_import : refusal (importing (from_host (codes "fd_read") (item.Function 1) ∷ from_host (codes "fd_reaD") (item.Function 1) ∷ [])) ≡ refused KnownImport 1
 unfolding link_refusal
 unknown_import = refl
 
-other_module : refusal (importing (record { «module» = codes "wasi"; name = codes "fd_read"; item = item.Function 1 } ∷ [])) ≡ refused 50 0
+other_module : refusal (importing (record { «module» = codes "wasi"; name = codes "fd_read"; item = item.Function 1 } ∷ [])) ≡ refused KnownImport 0
 unfolding link_refusal
 other_module = refl
 
-import_type : refusal (importing (from_host (codes "fd_write") (item.Function 1) ∷ from_host (codes "proc_exit") (item.Function 1) ∷ [])) ≡ refused 51 1
+import_type : refusal (importing (from_host (codes "fd_write") (item.Function 1) ∷ from_host (codes "proc_exit") (item.Function 1) ∷ [])) ≡ refused ImportType 1
 unfolding link_refusal
 import_type = refl
 
 -- no `_start`; a memory of that name; a function that has parameters
-no_start : refusal (record (alone Done) { exports = [] }) ≡ refused 53 0
+no_start : refusal (record (alone Done) { exports = [] }) ≡ refused HasStart 0
 unfolding link_refusal
 no_start = refl
 
-start_is_no_function : refusal (record (alone Done) { exports = record { name = codes "_start"; kind = 2; index = 0 } ∷ [] }) ≡ refused 54 0
+start_is_no_function : refusal (record (alone Done) { exports = record { name = codes "_start"; kind = 2; index = 0 } ∷ [] }) ≡ refused StartShape 0
 unfolding link_refusal
 start_is_no_function = refl
 
-start_takes_parameters : refusal (record (alone Done) { types = transfer ∷ [] }) ≡ refused 54 0
+start_takes_parameters : refusal (record (alone Done) { types = transfer ∷ [] }) ≡ refused StartShape 0
 unfolding link_refusal
 start_takes_parameters = refl
 
@@ -56,7 +59,7 @@ as_many_pages : refusal (record (alone Done) { memories = pages 2 None }) ≡ No
 unfolding link_refusal
 as_many_pages = refl
 
-too_many_pages : refusal (record (alone Done) { memories = pages 3 None }) ≡ refused 56 0
+too_many_pages : refusal (record (alone Done) { memories = pages 3 None }) ≡ refused FewPages 0
 unfolding link_refusal
 too_many_pages = refl
 
@@ -71,7 +74,7 @@ elements_fit : refusal (with_elements 1) ≡ None
 unfolding link_refusal
 elements_fit = refl
 
-elements_pass_the_end : refusal (record (with_elements 2) { segments = record { memory = 0; offset = i32 1; bytes = [] } ∷ [] }) ≡ refused 55 1
+elements_pass_the_end : refusal (record (with_elements 2) { segments = record { memory = 0; offset = i32 1; bytes = [] } ∷ [] }) ≡ refused SegmentRange 1
 unfolding link_refusal
 elements_pass_the_end = refl
 
@@ -85,7 +88,7 @@ bytes_fit : refusal (with_bytes_at 65534) ≡ None
 unfolding link_refusal
 bytes_fit = refl
 
-bytes_pass_the_end : refusal (with_bytes_at 65535) ≡ refused 55 1
+bytes_pass_the_end : refusal (with_bytes_at 65535) ≡ refused SegmentRange 1
 unfolding link_refusal
 bytes_pass_the_end = refl
 

@@ -2,9 +2,11 @@
 use Rattle.std.proofs.Common.{◌≡◌, ℕ, zero, suc, ◌+◌, ◌-◌, ◌<◌, ◌≤◌, ◌==◌, Bool, true, false, cond, not, ◌&&◌, nat_lt, nat_le, List, [], ◌∷◌, ◌++◌, length, map, take, drop, Option, Some, None, Result, Ok, Err, option_map, slice_get, refl, sym, ap, subst, ◌∙◌, arith, length-append}
 use Rattle.std.proofs.lemmas.Bool.Decides.{nat_tests}
 use Rattle.std.specs.List.{AllByRecursion, list_all}
+use Rattle.wasm_meaning.specs.declared.links.LinkRule.{LinkRule}
+use Rattle.wasm_meaning.specs.declared.links.Unlinked.{Unlinked}
 use Rattle.wasm_meaning.specs.declared.violations.Rule.{Rule}
 use Rattle.wasm_meaning.specs.declared.violations.Broken.{Broken}
-use Rattle.wasm_meaning.specs.Linking.{Unlinked, first_of_all, told_at, first_refused, unless}
+use Rattle.wasm_meaning.specs.Linking.{first_of_all, told_at, first_refused, broken_unless}
 use Rattle.wasm_meaning.proofs.Fits.{went}
 use Rattle.wasm_meaning.specs.ValidityChecks.{Check, in_order, each_behind, first_rule, broken_at, each_item}
 
@@ -135,18 +137,18 @@ pub none_of_all : (o : Option Unlinked) (os : List (Option Unlinked)) → first_
 none_of_all None os e = (refl, e)
 none_of_all (Some why) os e = let bad : ⊥ = cc in absurd bad
 
-pub not_told : (at : ℕ) (number : Option ℕ) → told_at at number ≡ None → number ≡ None
+pub not_told : (at : ℕ) (number : Option LinkRule) → told_at at number ≡ None → number ≡ None
 not_told at None e = refl
 not_told at (Some n) e = let bad : ⊥ = cc in absurd bad
 
 pub first_is_fine
-    : {A : Type 0} (refuses : A → Option ℕ) (at : ℕ) (x : A) (xs : List A) → first_refused refuses at (x ∷ xs) ≡ None
+    : {A : Type 0} (refuses : A → Option LinkRule) (at : ℕ) (x : A) (xs : List A) → first_refused refuses at (x ∷ xs) ≡ None
     → (refuses x ≡ None) × (first_refused refuses (at + 1) xs ≡ None)
 first_is_fine refuses at x xs e =
     let both = none_of_all (told_at at (refuses x)) (first_refused refuses (at + 1) xs ∷ []) e in
     let rest = none_of_all (first_refused refuses (at + 1) xs) [] both.1 in
     (not_told at (refuses x) both.0, rest.0)
 
-pub holds_unless : (number : ℕ) (b : Bool) → unless number b ≡ None → b ≡ true
+pub holds_unless : (number : LinkRule) (b : Bool) → broken_unless number b ≡ None → b ≡ true
 holds_unless number true e = refl
 holds_unless number false e = let bad : ⊥ = cc in absurd bad

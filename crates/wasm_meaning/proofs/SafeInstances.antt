@@ -16,11 +16,12 @@ use Rattle.wasm_ops.specs.declared.operators.Op.{Op}
 use Rattle.wasm_ops.specs.declared.operators.Op.TheVariants.{Block, Loop, If, Else, End}
 use Rattle.wasm_ops.specs.declared.types.FuncType.{FuncType}
 use Rattle.wasm_meaning.specs.declared.blocks.BlockKind.TheVariants.{BlockBody}
+use Rattle.wasm_meaning.specs.declared.links.LinkRule.TheVariants.{ImportType}
 use Rattle.wasm_meaning.specs.declared.violations.Violation.{Violation}
 use Rattle.wasm_meaning.specs.declared.violations.Broken.{Broken}
 use Rattle.wasm_meaning.specs.Control.{Callee, Host, Defined, defined_callee, imported_or, callee_at, same_function_type}
 use Rattle.wasm_meaning.specs.HostCalls.{host_type}
-use Rattle.wasm_meaning.specs.Linking.{Unlinked, first_refused, host_in, has_host_type, host_refusal, item_refusal, import_refusal, import_type, link_refusal}
+use Rattle.wasm_meaning.specs.Linking.{first_refused, host_in, has_host_type, host_refusal, item_refusal, import_refusal, link_refusal}
 use Rattle.wasm_meaning.specs.Programs.{Program, IsProgram, function_of, or_bare, defined_from, defined, hosts, instance_of}
 use Rattle.wasm_meaning.specs.State.{Function, Instance}
 use Rattle.wasm_meaning.specs.Typing.{Context, context_of, typed, ended, sequence_in, nested_body, typed_body, body_typed}
@@ -154,7 +155,7 @@ linked_host types import o (item.Table limits) named is e = let bad : ⊥ = cc i
 linked_host types import o (item.Memory limits) named is e = let bad : ⊥ = cc in absurd bad
 linked_host types import o (item.Global value mutable) named is e = let bad : ⊥ = cc in absurd bad
 linked_host types import None (item.Function index) named is e = let bad : ⊥ = cc in absurd bad
-linked_host types import (Some host) (item.Function index) named is e = by (slice_get types index) refl (holds_unless import_type (has_host_type host (slice_get types index)) e)
+linked_host types import (Some host) (item.Function index) named is e = by (slice_get types index) refl (holds_unless ImportType (has_host_type host (slice_get types index)) e)
   where
     by : (o : Option FuncType) → slice_get types index ≡ o → has_host_type host o ≡ true → Linked types import
     by None has same = let bad : ⊥ = cc in absurd bad

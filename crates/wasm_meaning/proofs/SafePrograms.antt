@@ -16,11 +16,12 @@ use Rattle.wasm_ops.specs.declared.types.FuncType.{FuncType}
 use Rattle.wasm_ops.specs.declared.types.ValType.{ValType}
 use Rattle.wasm_ops.specs.declared.types.ValType.TheVariants.{I32, I64}
 use Rattle.wasm_meaning.specs.declared.blocks.GlobalType.{GlobalType}
+use Rattle.wasm_meaning.specs.declared.links.LinkRule.TheVariants.{StartShape}
 use Rattle.wasm_meaning.specs.declared.violations.Rule.{Rule}
 use Rattle.wasm_meaning.specs.declared.violations.Rule.TheVariants.{UnknownIndex, StartType, ConstantType}
 use Rattle.wasm_meaning.specs.Control.{same_function_type, take_arguments}
 use Rattle.wasm_meaning.specs.Execution.{call, caller_of, left_call, walk, exec}
-use Rattle.wasm_meaning.specs.Linking.{first_refused, import_refusal, item_refusal, host_in, told_at, takes_nothing, is_entry, entry_refusal, export_named, entry_name, start_shape, link_refusal, first_elements}
+use Rattle.wasm_meaning.specs.Linking.{first_refused, import_refusal, item_refusal, host_in, told_at, takes_nothing, is_entry, entry_refusal, export_named, entry_name, link_refusal, first_elements}
 use Rattle.wasm_meaning.specs.Pending.{Around, Entering, Pending, entering, enter, close_entry, close, outward, onward}
 use Rattle.wasm_meaning.specs.Programs.{Program, IsProgram, defined, instance_of, first_global, laid, with_elements, first_table, fresh_store, fresh_state, body_number, start_body, entry_body, entries, first}
 use Rattle.wasm_meaning.specs.Requests.{Request, Verdict, Replied, Exit, Trap, BudgetSpent, run_of, concluded, verdict}
@@ -251,7 +252,7 @@ entry_fits m pages formed valid links = by (export_named entry_name m.exports) (
         → AllByRecursion (EntryFits m) (option_to_list (option_and_then (body_number m) (option_map (λ (export : Export). export.index) o)))
     by None e = let bad : ⊥ = cc in absurd bad
     by (Some export) e =
-        let both = and_both (export.kind == 0) (unwrap_or (option_map takes_nothing (function_type m export.index)) false) (holds_unless start_shape (is_entry m export) e) in
+        let both = and_both (export.kind == 0) (unwrap_or (option_map takes_nothing (function_type m export.index)) false) (holds_unless StartShape (is_entry m export) e) in
         typed_entry export.index (function_type m export.index) refl both.1
 
 entries_fit : (program : Program) → IsProgram program → AllByRecursion (EntryFits program.linked) (entries program.linked)

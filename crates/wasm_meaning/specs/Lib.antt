@@ -4,6 +4,7 @@ pub mod Effects
 pub mod Execution
 pub mod HostCalls
 pub mod Laws
+pub mod LinkRules
 pub mod Linking
 pub mod Memory
 pub mod Numeric

@@ -12,9 +12,10 @@ use Rattle.wasm_ops.specs.declared.types.FuncType.{FuncType}
 use Rattle.wasm_ops.specs.declared.types.Limits.{Limits}
 use Rattle.wasm_ops.specs.Sequence.{Done}
 use Rattle.wasm_ops.specs.WellFormed.{IsWellFormed}
+use Rattle.wasm_meaning.specs.declared.links.Unlinked.{Unlinked}
 use Rattle.wasm_meaning.specs.Bytes.{page, zeros, with_bytes}
 use Rattle.wasm_meaning.specs.HostCalls.{Streams}
-use Rattle.wasm_meaning.specs.Linking.{Unlinked, host_in, export_named, entry_name, first_pages, first_elements, link_refusal}
+use Rattle.wasm_meaning.specs.Linking.{host_in, export_named, entry_name, first_pages, first_elements, link_refusal}
 use Rattle.wasm_meaning.specs.Pending.{Pending, entering}
 use Rattle.wasm_meaning.specs.State.{Function, Instance, Store, State}
 use Rattle.wasm_meaning.specs.Typing.{nested_body, height_of, nest_of}

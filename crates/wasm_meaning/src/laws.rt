@@ -3,8 +3,9 @@ ghost use Rattle.std.specs.Prelude.{◌≡◌, ◌≢◌, ◌↔◌, ℕ, ◌+�
 ghost use Rattle.wasm_meaning.specs.Bytes.{stored};
 ghost use Rattle.wasm_meaning.specs.Laws.{Balances, Stores, richer, with_more};
 ghost use Rattle.wasm_meaning.specs.Pending.{Pending, onward};
-ghost use Rattle.wasm_meaning.specs.Requests.{Request, BudgetSpent, prices, units, verdict};
-ghost use Rattle.wasm_meaning.specs.State.{Instance, Spent};
+ghost use Rattle.wasm_meaning.specs.Programs.{IsProgram};
+ghost use Rattle.wasm_meaning.specs.Requests.{Request, Verdict, BudgetSpent, prices, run_of, units, verdict};
+ghost use Rattle.wasm_meaning.specs.State.{Instance, Spent, Stuck};
 ghost use Rattle.wasm_meaning.specs.Turns.{AreShortest, groups, joined, turns};
 
 /// A store changes just its bytes, and a load after it gives the number modulo its width. It is refused exactly where the bytes leave the memory.
@@ -25,6 +26,12 @@ pub fn requests_keep_their_verdict()
     ensures within { (request : Request) → units request ≤ request.budget }
     ensures same_verdict { (request : Request) (more : ℕ) → verdict request ≢ Some BudgetSpent → verdict (richer more request) ≡ verdict request }
     ensures same_prices { (request : Request) (more : ℕ) → verdict request ≢ Some BudgetSpent → prices (richer more request) ≡ prices request }
+{}
+
+/// A request to the program of a valid module is never stuck, whatever its body and its budget, so it has a verdict.
+pub fn programs_never_stick()
+    ensures free { (request : Request) → IsProgram request.program → (run_of request).outcome ≢ Stuck }
+    ensures verdict { (request : Request) → IsProgram request.program → (v : Verdict) × (verdict request ≡ Some v) }
 {}
 
 /// The groups of a list of prices are, joined, the list; each but the last is the shortest that reaches the quantum; and no prices are one turn.

@@ -8,7 +8,9 @@
 
 mod blocks;
 pub mod laws;
+mod links;
 mod violations;
 
 pub use blocks::{BlockKind, GlobalType};
+pub use links::{LinkRule, Unlinked};
 pub use violations::{Broken, Rule, Violation};

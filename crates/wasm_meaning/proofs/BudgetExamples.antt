@@ -1,13 +1,11 @@
 -- A budget that is spent at each place of a short run, and turns of the prices of another one.
-use Rattle.std.proofs.Common.{◌≡◌, ℕ, [], ◌∷◌, ◌++◌, List, Some, None, replicate, refl}
-use Rattle.wasm_ops.specs.Sequence.{Sequence, Done, Plain, InBlock, InIf}
-use Rattle.wasm_ops.specs.declared.host_calls.HostName.TheVariants.{FdWrite, ProcExit}
+use Rattle.std.proofs.Common.{◌≡◌, ℕ, [], ◌∷◌, List, None, replicate, refl}
+use Rattle.wasm_ops.specs.Sequence.{Done, Plain, InBlock, InIf}
+use Rattle.wasm_ops.specs.declared.host_calls.HostName.TheVariants.{FdWrite}
 use Rattle.wasm_ops.specs.declared.operators.Op.TheVariants.{Unreachable, Nop, Br, Call, ConstI32, Drop}
-use Rattle.wasm_ops.specs.declared.traps.Trap.TheVariants as trap
 use Rattle.wasm_meaning.proofs.Examples.{bare_function, functions, no_store, store_of, straight, idle, run_first, each_paid}
 use Rattle.wasm_meaning.specs.Bytes.{zeros}
-use Rattle.wasm_meaning.specs.Pending.{onward, entering}
-use Rattle.wasm_meaning.specs.State.{Instance, Outcome, Fell, Trapped, Exited, Spent, Run}
+use Rattle.wasm_meaning.specs.State.{Instance, Outcome, Fell, Spent, Run}
 use Rattle.wasm_meaning.specs.Turns.{groups, turns}
 
 -- how it ended, what is left, and the prices

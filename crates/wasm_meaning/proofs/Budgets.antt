@@ -1,13 +1,12 @@
 -- Laws of budgets: prices and what is left make the budget, a greater bound changes nothing, and more budget changes nothing of a run that had enough.
-use Rattle.std.proofs.Common.{◌≡◌, ◌≢◌, ◌⊎◌, inl, inr, ℕ, zero, suc, ◌+◌, ◌-◌, ◌<◌, ◌≤◌, Bool, true, false, nat_lt, nat_le, List, [], ◌∷◌, ◌++◌, Some, sum, refl, sym, ap, subst, ◌∙◌, arith}
+use Rattle.std.proofs.Common.{◌≡◌, ◌⊎◌, inl, inr, ℕ, zero, suc, ◌+◌, ◌-◌, ◌<◌, ◌≤◌, Bool, true, false, nat_lt, List, [], ◌∷◌, sum, refl, sym, ap, subst, ◌∙◌, arith}
 use Rattle.std.proofs.lemmas.Bool.Decides.{nat_tests}
-use Rattle.std.proofs.lemmas.List.Sums.{sum_by-cons, sum_by-append}
-use Rattle.wasm_ops.specs.Sequence.{Sequence}
-use Rattle.wasm_meaning.specs.Execution.{unpaid, pay_if, pay, walk, exec, nothing_left}
+use Rattle.std.proofs.lemmas.List.Sums.{sum_by-append}
+use Rattle.wasm_meaning.specs.Execution.{pay_if, pay, exec, nothing_left}
 use Rattle.wasm_meaning.specs.Laws.{Balances, with_more}
 use Rattle.wasm_meaning.specs.Pending.{Pending, onward}
-use Rattle.wasm_meaning.specs.State.{Instance, State, Outcome, Spent, Run, Go, Runner, Next, ends, paid, after}
-use Rattle.wasm_meaning.proofs.Related.{GoRelated, NextRelated, RunnerRelated, Lifts, walk_related, onward_related}
+use Rattle.wasm_meaning.specs.State.{Instance, State, Outcome, Spent, Run, Runner, Next, ends, paid, after}
+use Rattle.wasm_meaning.proofs.Related.{NextRelated, RunnerRelated, Lifts, walk_related, onward_related}
 
 not_below : (n m : ℕ) → nat_lt n m ≡ false → m ≤ n
 not_below n m e = grind (arith, nat_tests)
@@ -43,8 +42,8 @@ balances_lift = record {
   ended = λ o st l l' is. record { sum_is = omega arith };
   pays = λ price st l l' go go' is h. pay_balances price st l go (λ fits. h fits tt) (nat_lt l price) refl;
   follows = λ n l l' r r' next next' is lt b g.
-    paid_balances r.prices l r.left (next r.outcome r.state r.left) b.sum_is
-    ((g.behind r.outcome).at r.state r.left r.left tt (omega (arith, b.sum_is, lt)));
+      paid_balances r.prices l r.left (next r.outcome r.state r.left) b.sum_is
+      ((g.behind r.outcome).at r.state r.left r.left tt (omega (arith, b.sum_is, lt)));
 }
 
 spent_balances : (n : ℕ) → RunnerRelated Any Balanced n nothing_left nothing_left
@@ -94,9 +93,9 @@ unfolding Same
 agrees_lift = record {
   ended = λ o st l l' is. subst (λ (k : ℕ). Agrees l k (ends o st l) (ends o st k)) is (record { within = omega arith; same = refl });
   pays = λ price st l l' go go' is h.
-    agrees_at price st l l' go go' is h;
+      agrees_at price st l l' go go' is h;
   follows = λ n l l' r r' next next' is lt a g.
-    followed_at l l' r r' next next' is a ((g.behind r.outcome).at r.state r.left r.left refl (omega (arith, a.within, lt)));
+      followed_at l l' r r' next next' is a ((g.behind r.outcome).at r.state r.left r.left refl (omega (arith, a.within, lt)));
 }
   where
     agrees_at
@@ -105,9 +104,10 @@ agrees_lift = record {
         → Agrees l l' (pay price st l go) (pay price st l' go')
     agrees_at price st l l' go go' is h =
         let here = λ (fits : price ≤ l).
-          subst (λ (k : ℕ). Agrees (l - price) (k - price) (go (l - price)) (go' (k - price))) (sym is) (h fits (ap (λ (k : ℕ). k - price) is)) in
+        subst (λ (k : ℕ). Agrees (l - price) (k - price) (go (l - price)) (go' (k - price))) (sym is) (h fits (ap (λ (k : ℕ). k - price) is)) in
         subst (λ (k : ℕ). Agrees l k (pay price st l go) (pay price st k go')) is
         (pay_agrees price st l go go' here (nat_lt l price) refl)
+
     followed_at
         : (l l' : ℕ) (r r' : Run) (next next' : Next) → l ≡ l' → Agrees l l' r r'
         → Agrees r.left r.left (next r.outcome r.state r.left) (next' r.outcome r.state r.left)
@@ -204,12 +204,13 @@ unspent_lift more = record {
         → Unspent more l l' (pay price st l go) (pay price st l' go')
     paying price st l l' go go' is h =
         let here = λ (fits : price ≤ l). subst (λ (k : ℕ). Unspent more (l - price) (k - price) (go (l - price)) (go' (k - price))) is
-          (h fits (less l l' price is fits)) in
+        (h fits (less l l' price is fits)) in
         subst (λ (k : ℕ). Unspent more l k (pay price st l go) (pay price st k go')) (sym is)
         (pay_unspent more price st l go go' here (nat_lt l price) (nat_lt (l + more) price) refl refl)
       where
         less : (l l' price : ℕ) → l' ≡ l + more → price ≤ l → l' - price ≡ l - price + more
         less l l' price is fits = omega (arith, is, fits)
+
     following
         : (n l l' : ℕ) (r r' : Run) (next next' : Next) → l' ≡ l + more → l < n → Unspent more l l' r r'
         → (r.outcome ≡ Spent) ⊎ (r' ≡ with_more more r) → NextRelated (More more) (Unspent more) n next next'
@@ -230,7 +231,7 @@ unspent_lift more = record {
 exec_unspent : (inst : Instance) (more bound n : ℕ) → RunnerRelated (More more) (Unspent more) (suc n) (exec inst bound) (exec inst bound)
 exec_unspent inst more zero n = record {
   runs = walk_related (More more) (Unspent more) (unspent_lift more) inst n nothing_left nothing_left
-    (record { runs = λ s. record { at = λ st l l' is lt. record { within = omega arith; same = inl refl } } });
+      (record { runs = λ s. record { at = λ st l l' is lt. record { within = omega arith; same = inl refl } } });
 }
 exec_unspent inst more (suc bound) n =
     let below : RunnerRelated (More more) (Unspent more) n (exec inst bound) (exec inst bound) = record {

@@ -1,15 +1,15 @@
 -- Calls: arguments and results, the limits of frames and cells, and calls through the table with each of their traps.
-use Rattle.std.proofs.Common.{◌≡◌, ℕ, [], ◌∷◌, List, Option, Some, None, replicate, refl}
-use Rattle.wasm_ops.specs.Sequence.{Sequence, Done, Plain, InBlock, InIf}
-use Rattle.wasm_ops.specs.declared.host_calls.HostName.TheVariants.{FdRead, ProcExit}
+use Rattle.std.proofs.Common.{◌≡◌, ℕ, [], ◌∷◌, List, Some, None, refl}
+use Rattle.wasm_ops.specs.Sequence.{Sequence, Done, Plain, InIf}
+use Rattle.wasm_ops.specs.declared.host_calls.HostName.TheVariants.{ProcExit}
 use Rattle.wasm_ops.specs.declared.operators.Op.{Op}
-use Rattle.wasm_ops.specs.declared.operators.Op.TheVariants.{Unreachable, Nop, Br, Return, Call, CallIndirect, LocalGet, ConstI32, ConstI64, Binary, Drop, GlobalSet}
+use Rattle.wasm_ops.specs.declared.operators.Op.TheVariants.{Unreachable, Nop, Br, Return, Call, CallIndirect, LocalGet, ConstI32, ConstI64, Binary}
 use Rattle.wasm_ops.specs.declared.traps.Trap.TheVariants.{UndefinedElement, UninitializedElement, TypeMismatch, StackExhausted}
 use Rattle.wasm_ops.specs.declared.types.FuncType.{FuncType}
 use Rattle.wasm_ops.specs.declared.types.ValType.TheVariants.{I32, I64}
 use Rattle.wasm_meaning.proofs.Examples.{Line, line, function, bare_function, functions, inside, store_of, no_store, straight, shown, idle, run_first, ending, at_cost, each_paid}
-use Rattle.wasm_meaning.specs.State.{Function, Instance, State, Fell, Trapped, Exited, Spent, Stuck}
-use Rattle.wasm_meaning.specs.Values.{Value, Int32, Int64}
+use Rattle.wasm_meaning.specs.State.{Function, Instance, State, Fell, Trapped, Exited, Stuck}
+use Rattle.wasm_meaning.specs.Values.{Int32, Int64}
 
 -- the difference of two arguments, by falling off its end, by a return and by a branch to its own label; and a function that leaves its result out
 abbrev difference_by : Op → Function

@@ -1,13 +1,12 @@
 -- Control operators: branches out of blocks and back to loops, both ways of an `if`, and each way of a `br_table`.
-use Rattle.std.proofs.Common.{◌≡◌, ℕ, [], ◌∷◌, ◌++◌, List, Some, None, replicate, refl}
+use Rattle.std.proofs.Common.{◌≡◌, ℕ, [], ◌∷◌, Some, None, refl}
 use Rattle.wasm_ops.specs.Sequence.{Sequence, Done, Plain, InBlock, InLoop, InIf, InIfElse}
-use Rattle.wasm_ops.specs.declared.operators.Op.{Op}
 use Rattle.wasm_ops.specs.declared.operators.Op.TheVariants.{Unreachable, Nop, Br, BrIf, BrTable, Return, ConstI32, ConstI64, Binary, Drop, LocalGet, LocalSet, LocalTee}
 use Rattle.wasm_ops.specs.declared.traps.Trap.TheVariants as trap
 use Rattle.wasm_ops.specs.declared.types.ValType.TheVariants.{I32, I64}
 use Rattle.wasm_meaning.proofs.Examples.{Line, line, shown, inside, no_store, nothing, straight, each_paid}
-use Rattle.wasm_meaning.specs.State.{Fell, Branched, Returned, Trapped, Spent, Stuck}
-use Rattle.wasm_meaning.specs.Values.{Value, Int32, Int64}
+use Rattle.wasm_meaning.specs.State.{Fell, Branched, Returned, Trapped, Stuck}
+use Rattle.wasm_meaning.specs.Values.{Int32, Int64}
 
 -- in a function with one local, an i32, and the labels 0, 1, 2 and the default 3 of a `br_table`
 abbrev runs : Sequence → Line

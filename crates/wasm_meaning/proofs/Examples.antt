@@ -1,15 +1,13 @@
 -- What the examples are written with: small programs, and what a line of their tables says.
-use Rattle.std.specs.Prelude.{ℕ, ◌+◌, List, [], ◌∷◌, Option, Some, None, sum, replicate}
-use Rattle.wasm_ops.specs.Sequence.{Sequence, Done, Plain, InBlock, InLoop, InIf, InIfElse}
-use Rattle.wasm_ops.specs.declared.host_calls.HostName.{HostName}
+use Rattle.std.specs.Prelude.{ℕ, List, [], ◌∷◌, Option, None, sum, replicate}
+use Rattle.wasm_ops.specs.Sequence.{Sequence, Done, Plain}
 use Rattle.wasm_ops.specs.declared.operators.Op.{Op}
-use Rattle.wasm_ops.specs.declared.types.FuncType.{FuncType}
 use Rattle.wasm_ops.specs.declared.types.ValType.{ValType}
 use Rattle.wasm_meaning.specs.Execution.{walk, exec}
 use Rattle.wasm_meaning.specs.HostCalls.{Streams}
 use Rattle.wasm_meaning.specs.Pending.{onward, entering}
 use Rattle.wasm_meaning.specs.State.{Function, Instance, Store, State, Outcome, Run}
-use Rattle.wasm_meaning.specs.Values.{Value, Int32}
+use Rattle.wasm_meaning.specs.Values.{Value}
 
 -- operators one after another
 abbrev pub straight : List Op → Sequence

@@ -6,7 +6,7 @@ use Rattle.wasm_ops.specs.declared.types.ValType.{ValType}
 use Rattle.wasm_ops.specs.declared.types.ValType.TheVariants.{I32, I64}
 use Rattle.wasm_meaning.specs.declared.violations.Violation.{Violation}
 use Rattle.wasm_meaning.specs.Control.{Arguments, take_values, take_arguments}
-use Rattle.wasm_meaning.specs.Effects.{Taken, take_off as last_of, taken_over}
+use Rattle.wasm_meaning.specs.Effects.{take_off as last_of, taken_over}
 use Rattle.wasm_meaning.specs.Execution.{kept, kept_one}
 use Rattle.wasm_meaning.specs.declared.violations.Rule.TheVariants.{OperandType}
 use Rattle.wasm_meaning.specs.TypingOperands.{Walk, Operand, breaks, fits, exact, same_type, pull_from, pull, take_off, take_result, take_all, lay_result}
@@ -285,9 +285,9 @@ took_all (t ∷ ts) now after vs before e falls =
       arguments = more.arguments;
       under = more.under;
       is = ap (λ (xs : List Value). take_values (t ∷ ts) xs before) o.is
-        ∙ ap (λ (b : Bool). cond b (take_values ts o.under (o.value ∷ before)) None) o.has ∙ more.is;
+          ∙ ap (λ (b : Bool). cond b (take_values ts o.under (o.value ∷ before)) None) o.has ∙ more.is;
       are = λ us are.
-        subst (λ (xs : List ValType). AreOf xs more.arguments) (sym (ap (λ (xs : List ValType). xs ++ us) (reverse-append (t ∷ []) ts) ∙ append_assoc (reverse ts) (t ∷ []) us)) (more.are (t ∷ us) (o.has, are));
+          subst (λ (xs : List ValType). AreOf xs more.arguments) (sym (ap (λ (xs : List ValType). xs ++ us) (reverse-append (t ∷ []) ts) ∙ append_assoc (reverse ts) (t ∷ []) us)) (more.are (t ∷ us) (o.has, are));
       rest = more.rest;
     }
 

@@ -30,14 +30,14 @@ memory = 7 ∷ 0 ∷ 0 ∷ 0 ∷ 5 ∷ 6 ∷ 7 ∷ 8 ∷ 9 ∷ 9 ∷ 9 ∷ 9 ∷
 reads
     : does FdRead (0 ∷ 16 ∷ 2 ∷ 8 ∷ []) memory 0
     ≡ effect (Gives 0) 3 (11 ∷ 0 ∷ 0 ∷ 0 ∷ 12 ∷ 6 ∷ 7 ∷ 8 ∷ 2 ∷ 0 ∷ 0 ∷ 0 ∷ 0 ∷ 0 ∷ 0 ∷ 0 ∷ buffers)
-      (record { body = 10 ∷ 11 ∷ 12 ∷ []; position = 3; reply = [] })
+    (record { body = 10 ∷ 11 ∷ 12 ∷ []; position = 3; reply = [] })
 reads = refl
 
 -- into the first buffer alone
 reads_as_many_as_fit
     : does FdRead (0 ∷ 16 ∷ 1 ∷ 8 ∷ []) memory 0
     ≡ effect (Gives 0) 2 (11 ∷ 0 ∷ 0 ∷ 0 ∷ 5 ∷ 6 ∷ 7 ∷ 8 ∷ 1 ∷ 0 ∷ 0 ∷ 0 ∷ 0 ∷ 0 ∷ 0 ∷ 0 ∷ buffers)
-      (record { body = 10 ∷ 11 ∷ 12 ∷ []; position = 2; reply = [] })
+    (record { body = 10 ∷ 11 ∷ 12 ∷ []; position = 2; reply = [] })
 reads_as_many_as_fit = refl
 
 -- no buffer, whose array begins at the memory's end
@@ -50,7 +50,7 @@ reads_nothing = refl
 writes
     : does FdWrite (1 ∷ 16 ∷ 2 ∷ 8 ∷ []) memory 1
     ≡ effect (Gives 0) 3 (7 ∷ 0 ∷ 0 ∷ 0 ∷ 5 ∷ 6 ∷ 7 ∷ 8 ∷ 5 ∷ 0 ∷ 0 ∷ 0 ∷ 0 ∷ 0 ∷ 0 ∷ 0 ∷ buffers)
-      (record { body = 10 ∷ 11 ∷ 12 ∷ []; position = 1; reply = 1 ∷ 7 ∷ 5 ∷ 6 ∷ 7 ∷ 8 ∷ [] })
+    (record { body = 10 ∷ 11 ∷ 12 ∷ []; position = 1; reply = 1 ∷ 7 ∷ 5 ∷ 6 ∷ 7 ∷ 8 ∷ [] })
 writes = refl
 
 -- those to descriptor 2 are dropped
@@ -66,7 +66,7 @@ wide_memory = bytes_of 4 16 ++ (bytes_of 4 64 ++ replicate 72 3)
 wide_write
     : does FdWrite (1 ∷ 0 ∷ 1 ∷ 8 ∷ []) wide_memory 0
     ≡ effect (Gives 0) 3 (bytes_of 4 16 ++ (bytes_of 4 64 ++ (64 ∷ 0 ∷ 0 ∷ 0 ∷ replicate 68 3)))
-      (record { body = 10 ∷ 11 ∷ 12 ∷ []; position = 1; reply = replicate 64 3 })
+    (record { body = 10 ∷ 11 ∷ 12 ∷ []; position = 1; reply = replicate 64 3 })
 wide_write = refl
 
 -- 28: 1,025 buffers, whatever else is wrong

@@ -1,17 +1,15 @@
 -- Memory operators, at the memory's last byte and one past it, and at its limit of pages.
-use Rattle.std.proofs.Common.{◌≡◌, ℕ, ◌*◌, [], ◌∷◌, List, length, refl}
+use Rattle.std.proofs.Common.{◌≡◌, ℕ, [], ◌∷◌, List, refl}
 use Rattle.wasm_ops.specs.declared.operators.Op.{Op}
 use Rattle.wasm_ops.specs.declared.operators.Op.TheVariants.{ConstI32, ConstI64, Load, Store, MemorySize, MemoryGrow}
 use Rattle.wasm_ops.specs.declared.traps.Trap.TheVariants.{OutOfBounds}
-use Rattle.wasm_ops.specs.declared.types.Access.{Access}
-use Rattle.wasm_ops.specs.declared.types.ValType.{ValType}
 use Rattle.wasm_ops.specs.declared.types.ValType.TheVariants.{I32, I64}
-use Rattle.std.specs.Prelude.{Bool, true, false}
+use Rattle.std.specs.Prelude.{true, false}
 use Rattle.wasm_meaning.proofs.Examples.{Line, line, shown, run_in, inside, store_of, straight, memory_alone, each_paid}
 use Rattle.wasm_meaning.proofs.Modules.{access}
 use Rattle.wasm_meaning.specs.Bytes.{zeros, page}
 use Rattle.wasm_meaning.specs.State.{Fell, Trapped, Stuck}
-use Rattle.wasm_meaning.specs.Values.{Value, Int32, Int64}
+use Rattle.wasm_meaning.specs.Values.{Int32, Int64}
 
 -- a memory of eight bytes
 abbrev eight_bytes : List ℕ

@@ -1,11 +1,10 @@
 -- What follows for each item of a module from the walk that finds it valid, and from linking.
-use Rattle.std.proofs.Common.{◌≡◌, ℕ, zero, suc, ◌+◌, ◌-◌, ◌<◌, ◌≤◌, ◌==◌, Bool, true, false, cond, not, ◌&&◌, nat_lt, nat_le, List, [], ◌∷◌, ◌++◌, length, map, take, drop, Option, Some, None, Result, Ok, Err, option_map, slice_get, refl, sym, ap, subst, ◌∙◌, arith, length-append}
+use Rattle.std.proofs.Common.{◌≡◌, ℕ, zero, suc, ◌+◌, ◌<◌, ◌≤◌, Bool, true, false, not, ◌&&◌, nat_lt, nat_le, List, [], ◌∷◌, ◌++◌, length, take, drop, Option, Some, None, Ok, Err, slice_get, refl, ap, subst, ◌∙◌, arith, length-append}
 use Rattle.std.proofs.lemmas.Bool.Decides.{nat_tests}
-use Rattle.std.specs.List.{AllByRecursion, list_all}
+use Rattle.std.specs.List.{AllByRecursion}
 use Rattle.wasm_meaning.specs.declared.links.LinkRule.{LinkRule}
 use Rattle.wasm_meaning.specs.declared.links.Unlinked.{Unlinked}
 use Rattle.wasm_meaning.specs.declared.violations.Rule.{Rule}
-use Rattle.wasm_meaning.specs.declared.violations.Broken.{Broken}
 use Rattle.wasm_meaning.specs.Linking.{first_of_all, told_at, first_refused, broken_unless}
 use Rattle.wasm_meaning.proofs.Fits.{went}
 use Rattle.wasm_meaning.specs.ValidityChecks.{Check, in_order, each_behind, first_rule, broken_at, each_item}

@@ -12,7 +12,7 @@ use Rattle.wasm_ops.specs.declared.types.Access.{Access}
 use Rattle.wasm_ops.specs.declared.types.FuncType.{FuncType}
 use Rattle.wasm_ops.specs.declared.types.Limits.{Limits}
 use Rattle.wasm_ops.specs.declared.types.ValType.{ValType}
-use Rattle.wasm_ops.specs.declared.types.ValType.TheVariants.{I32, I64}
+use Rattle.wasm_ops.specs.declared.types.ValType.TheVariants.{I32}
 
 abbrev pub bare : FuncType
 bare = record { params = []; result = None }

@@ -1,5 +1,5 @@
 -- States that fit what typing knows, and what an operator's effect keeps of that.
-use Rattle.std.proofs.Common.{◌≡◌, ℕ, ◌<◌, Bool, true, false, List, [], ◌∷◌, ◌++◌, length, map, reverse, Option, Some, None, Result, Ok, Err, slice_get, refl, sym, ap, subst, ◌∙◌}
+use Rattle.std.proofs.Common.{◌≡◌, ℕ, List, [], ◌∷◌, ◌++◌, length, map, Option, Some, Ok, slice_get, sym, subst}
 use Rattle.std.specs.Prelude.{option_to_list}
 use Rattle.wasm_ops.specs.Sequence.{Sequence, Done, Plain, InBlock, InLoop, InIf, InIfElse, IsPlain}
 use Rattle.wasm_ops.specs.WellFormed.{IsOperator}
@@ -10,7 +10,7 @@ use Rattle.wasm_meaning.specs.declared.blocks.BlockKind.TheVariants.{BlockBody}
 use Rattle.wasm_meaning.specs.declared.blocks.GlobalType.{GlobalType}
 use Rattle.wasm_meaning.specs.Control.{Arguments, take_arguments, Callee, Host, Defined, callee_at}
 use Rattle.wasm_meaning.specs.Effects.{Effect, Goes, Branches, Returns, Calls, Asks, Traps, Breaks}
-use Rattle.wasm_meaning.specs.HostCalls.{HostAnswer, Gives, HostEffect, host_type}
+use Rattle.wasm_meaning.specs.HostCalls.{Gives, HostEffect, host_type}
 use Rattle.wasm_meaning.specs.State.{Function, Instance, Store, Frame, State}
 use Rattle.wasm_meaning.specs.Typing.{Context, typed, ended}
 use Rattle.wasm_meaning.specs.TypingOperands.{Walk, start}

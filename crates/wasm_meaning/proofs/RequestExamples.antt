@@ -1,13 +1,12 @@
 -- Requests to whole modules: verdict and units.
-use Rattle.std.proofs.Common.{◌≡◌, ℕ, [], ◌∷◌, ◌++◌, List, Option, Some, None, codes, replicate, refl}
-use Rattle.std.specs.Prelude.{Bool, true, false}
+use Rattle.std.proofs.Common.{◌≡◌, ℕ, [], ◌∷◌, List, Option, Some, None, codes, replicate, refl}
+use Rattle.std.specs.Prelude.{true, false}
 use Rattle.wasm_ops.specs.Sequence.{Sequence, Done, Plain, InBlock, InLoop, InIf}
 use Rattle.wasm_ops.specs.declared.modules.ImportItem.TheVariants as item
 use Rattle.wasm_ops.specs.declared.modules.Module.{Module}
-use Rattle.wasm_ops.specs.declared.operators.Op.TheVariants.{Unreachable, Br, BrIf, Call, CallIndirect, Drop, LocalGet, LocalTee, GlobalGet, GlobalSet, Load, Store, ConstI32, ConstI64, Unary, Binary}
+use Rattle.wasm_ops.specs.declared.operators.Op.TheVariants.{Unreachable, Br, BrIf, Call, CallIndirect, Drop, LocalGet, LocalTee, GlobalGet, GlobalSet, Load, Store, ConstI32, Unary, Binary}
 use Rattle.wasm_ops.specs.declared.traps.Trap.TheVariants as trap
-use Rattle.wasm_ops.specs.declared.types.FuncType.{FuncType}
-use Rattle.wasm_ops.specs.declared.types.ValType.TheVariants.{I32, I64}
+use Rattle.wasm_ops.specs.declared.types.ValType.TheVariants.{I32}
 use Rattle.wasm_meaning.proofs.Examples.{straight}
 use Rattle.wasm_meaning.proofs.Modules.{bare, transfer, start_at, from_host, i32, pages, alone, body_of, access}
 use Rattle.wasm_meaning.specs.Programs.{defined}
@@ -93,9 +92,9 @@ zeros_back = record (alone Done) {
   memories = pages 1 None;
   exports = start_at 1;
   bodies = body_of [] (straight (
-    ConstI32 0 ∷ ConstI32 1024 ∷ Store (access I32 4 false) 2 0
-    ∷ ConstI32 0 ∷ ConstI32 16 ∷ Store (access I32 4 false) 2 4
-    ∷ ConstI32 1 ∷ ConstI32 0 ∷ ConstI32 1 ∷ ConstI32 8 ∷ Call 0 ∷ Drop ∷ [])) ∷ [];
+      ConstI32 0 ∷ ConstI32 1024 ∷ Store (access I32 4 false) 2 0
+      ∷ ConstI32 0 ∷ ConstI32 16 ∷ Store (access I32 4 false) 2 4
+      ∷ ConstI32 1 ∷ ConstI32 0 ∷ ConstI32 1 ∷ ConstI32 8 ∷ Call 0 ∷ Drop ∷ [])) ∷ [];
 }
 
 unwritten : answer zeros_back 1 [] 100 ≡ row (Replied (replicate 16 0)) 13
@@ -126,8 +125,8 @@ echo = record (alone Done) {
   globals = record { value = I32; mutable = true; first = i32 66560 } ∷ [];
   exports = record { name = codes "memory"; kind = 2; index = 0 } ∷ start_at 2;
   bodies = body_of [] (
-    Plain (GlobalGet 0) (Plain (ConstI32 16) (Plain (Binary 0x6B) (Plain (LocalTee 0) (Plain (GlobalSet 0)
-    (InBlock None (InLoop None (straight (
+      Plain (GlobalGet 0) (Plain (ConstI32 16) (Plain (Binary 0x6B) (Plain (LocalTee 0) (Plain (GlobalSet 0)
+      (InBlock None (InLoop None (straight (
       LocalGet 0 ∷ ConstI32 1024 ∷ Store (access I32 4 false) 2 8
       ∷ LocalGet 0 ∷ ConstI32 1024 ∷ Store (access I32 4 false) 2 12
       ∷ ConstI32 0 ∷ LocalGet 0 ∷ ConstI32 8 ∷ Binary 0x6A ∷ ConstI32 1 ∷ LocalGet 0 ∷ ConstI32 4 ∷ Binary 0x6A ∷ Call 0 ∷ BrIf 1
@@ -135,8 +134,8 @@ echo = record (alone Done) {
       ∷ LocalGet 0 ∷ LocalGet 0 ∷ Load (access I32 4 false) 2 4 ∷ Store (access I32 4 false) 2 12
       ∷ ConstI32 1 ∷ LocalGet 0 ∷ ConstI32 8 ∷ Binary 0x6A ∷ ConstI32 1 ∷ LocalGet 0 ∷ ConstI32 4 ∷ Binary 0x6A ∷ Call 1
       ∷ Unary 0x45 ∷ BrIf 0 ∷ []))
-    Done) (straight (LocalGet 0 ∷ ConstI32 16 ∷ Binary 0x6A ∷ GlobalSet 0 ∷ []))))))))
-  ∷ [];
+      Done) (straight (LocalGet 0 ∷ ConstI32 16 ∷ Binary 0x6A ∷ GlobalSet 0 ∷ []))))))))
+      ∷ [];
 }
 
 echoes_nothing : answer echo 2 [] 1000 ≡ row (Replied []) 32

@@ -1,9 +1,9 @@
 -- Laws of requests, from those of what is pending.
-use Rattle.std.proofs.Common.{◌≡◌, ◌≢◌, ◌⊎◌, inl, inr, ℕ, ◌+◌, ◌≤◌, sum, Option, Some, None, refl, sym, ap, ◌∙◌, arith}
+use Rattle.std.proofs.Common.{◌≡◌, ◌≢◌, ◌⊎◌, inl, inr, ℕ, ◌+◌, ◌≤◌, Some, sym, ap, ◌∙◌, arith}
 use Rattle.wasm_meaning.specs.Laws.{with_more, richer}
 use Rattle.wasm_meaning.specs.Pending.{Pending, onward}
 use Rattle.wasm_meaning.specs.Programs.{instance_of, first}
-use Rattle.wasm_meaning.specs.Requests.{Request, Verdict, BudgetSpent, run_of, concluded, verdict_of, verdict, prices, units}
+use Rattle.wasm_meaning.specs.Requests.{Request, BudgetSpent, run_of, concluded, verdict, units}
 use Rattle.wasm_meaning.specs.State.{Instance, Outcome, Spent, Run}
 use Rattle.wasm_meaning.proofs.Budgets.{onward_balances, onward_agrees, onward_unspent}
 
@@ -16,6 +16,7 @@ enough_budget inst w left more bound other fits more_fits unspent =
   where
     same : onward inst bound w left ≡ onward inst other w left
     same = onward_agrees inst w left bound other fits (omega (arith, more_fits))
+
     by
         : ((onward inst other w left).outcome ≡ Spent) ⊎ (onward inst other w (left + more) ≡ with_more more (onward inst other w left))
         → onward inst other w (left + more) ≡ with_more more (onward inst bound w left)

@@ -1,5 +1,5 @@
 -- Branches, returns and calls that are typed find their labels, functions and operands; and so does each operator that opens no block.
-use Rattle.std.proofs.Common.{◌≡◌, ℕ, zero, suc, ◌+◌, ◌<◌, ◌==◌, Bool, true, false, cond, ◌&&◌, nat_lt, List, [], ◌∷◌, ◌++◌, length, reverse, take, drop, Option, Some, None, Result, Ok, Err, slice_get, refl, sym, ap, subst, ◌∙◌, option_and_then, arith}
+use Rattle.std.proofs.Common.{◌≡◌, ℕ, zero, suc, ◌+◌, ◌<◌, ◌==◌, Bool, true, false, cond, ◌&&◌, nat_lt, List, [], ◌∷◌, ◌++◌, reverse, take, drop, Option, Some, None, Result, Ok, slice_get, refl, sym, ap, subst, ◌∙◌, option_and_then, arith}
 use Rattle.std.proofs.lemmas.Bool.Decides.{nat_tests}
 use Rattle.std.specs.List.{list_all}
 use Rattle.std.specs.Prelude.{option_to_list}
@@ -10,26 +10,24 @@ use Rattle.wasm_ops.specs.declared.host_calls.HostName.{HostName}
 use Rattle.wasm_ops.specs.declared.host_calls.HostName.TheVariants.{FdRead, FdWrite, ProcExit}
 use Rattle.wasm_ops.specs.declared.operators.Op.{Op}
 use Rattle.wasm_ops.specs.declared.operators.Op.TheVariants as op
-use Rattle.wasm_ops.specs.declared.modules.Module.{Module}
 use Rattle.wasm_ops.specs.declared.types.FuncType.{FuncType}
 use Rattle.wasm_ops.specs.declared.types.ValType.{ValType}
 use Rattle.wasm_ops.specs.declared.types.ValType.TheVariants.{I32, I64}
-use Rattle.wasm_meaning.specs.declared.blocks.GlobalType.{GlobalType}
 use Rattle.wasm_meaning.specs.declared.violations.Rule.TheVariants.{UnknownIndex, LabelDepth, BranchTypes}
 use Rattle.wasm_meaning.specs.declared.violations.Violation.{Violation}
-use Rattle.wasm_meaning.specs.Control.{branch_if as branches_if, branch_if_on, branch_if_of, branch_to, entry, branch_table as branches_by_table, branch_table_on, Callee, Host, Defined, callee_at, type_of_callee, Arguments, take_arguments, asks, calls, call_effect, same_type as types_match, same_types, same_results, same_function_type, calls_if, calls_as, calls_found, calls_element, call_indirect_on, call_indirect_effect}
-use Rattle.wasm_meaning.specs.Effects.{Effect, Goes, Branches, Returns, Calls, Asks, Traps, Breaks, Taken}
-use Rattle.wasm_meaning.specs.HostCalls.{HostAnswer, Gives, Exits, HostEffect, host_type, host_effect}
+use Rattle.wasm_meaning.specs.Control.{branch_if as branches_if, branch_if_on, branch_if_of, branch_to, entry, branch_table as branches_by_table, branch_table_on, Callee, Host, Defined, callee_at, type_of_callee, Arguments, take_arguments, asks, calls, call_effect, same_type as types_match, same_types, same_results, same_function_type, calls_if, calls_found, calls_element, call_indirect_on, call_indirect_effect}
+use Rattle.wasm_meaning.specs.Effects.{Branches, Taken}
+use Rattle.wasm_meaning.specs.HostCalls.{host_type}
 use Rattle.wasm_meaning.specs.Operators.{effect}
 use Rattle.wasm_meaning.specs.State.{Instance, State, with_operands}
 use Rattle.wasm_meaning.specs.Typing.{Context, with_table, with_memory as has_memory, call, call_indirect, set_global, same_result, is_label, takes, agrees, branch_table, plain}
-use Rattle.wasm_meaning.specs.TypingOperands.{Walk, known, holds, take_off, take_result, take_all, lay_result, cut, gives, unary, branch, keep_result, branch_if, same_type}
+use Rattle.wasm_meaning.specs.TypingOperands.{Walk, known, holds, take_off, take_result, take_all, lay_result, cut, gives, unary, branch, keep_result, branch_if}
 use Rattle.wasm_meaning.specs.ValidityChecks.{go_on}
 use Rattle.wasm_meaning.specs.ValiditySpaces.{function_type, globals}
-use Rattle.wasm_meaning.specs.Values.{Value, Int32, number_in, numbers}
-use Rattle.wasm_meaning.proofs.Fits.{Went, went, AreOf, Falls, Off, off, Keeps, TookResult, took_result, laid_result, TookArguments, took_arguments, same_types_equal}
-use Rattle.wasm_meaning.proofs.Ready.{TypedFunction, CalleeFits, CalleeAt, InstanceFits, HasType, Ready, BranchFits, ReturnFits, CallFits, AskFits, GoFits, EffectFits, told, with_others, goes_on}
-use Rattle.wasm_meaning.proofs.SafeOperators.{known_is, holds_is, same_walk, gives_falls, const_fits, unary_fits, binary_fits, drop_fits, select_fits, local_get_fits, local_set_fits, local_tee_fits, global_get_fits, global_set_fits, load_fits, store_fits, grow_fits}
+use Rattle.wasm_meaning.specs.Values.{Value, Int32, number_in}
+use Rattle.wasm_meaning.proofs.Fits.{went, AreOf, Falls, off, took_result, laid_result, took_arguments, same_types_equal}
+use Rattle.wasm_meaning.proofs.Ready.{CalleeFits, InstanceFits, Ready, BranchFits, ReturnFits, EffectFits, told, with_others, goes_on}
+use Rattle.wasm_meaning.proofs.SafeOperators.{known_is, holds_is, same_walk, const_fits, unary_fits, binary_fits, drop_fits, select_fits, local_get_fits, local_set_fits, local_tee_fits, global_get_fits, global_set_fits, load_fits, store_fits, grow_fits}
 
 -- Branches.
 
@@ -167,12 +165,12 @@ module _ (cx : Context) where
       let labels = take count (drop from cx.targets) in
       let default = slice_get cx.targets (from + count) in
       let w = went (holds LabelDepth now (list_all (is_label cx) labels)) (λ all_known.
-        go_on (known LabelDepth now (option_and_then (slice_get cx.labels) default)) (λ due.
-        go_on (holds BranchTypes now (list_all (agrees cx due) labels)) (λ all_agree.
-        go_on (take_off (Some I32) now) (λ x. branch due x)))) after e in
+      go_on (known LabelDepth now (option_and_then (slice_get cx.labels) default)) (λ due.
+      go_on (holds BranchTypes now (list_all (agrees cx due) labels)) (λ all_agree.
+      go_on (take_off (Some I32) now) (λ x. branch due x)))) after e in
       let w' = went (known LabelDepth now (option_and_then (slice_get cx.labels) default)) (λ due.
-        go_on (holds BranchTypes now (list_all (agrees cx due) labels)) (λ all_agree.
-        go_on (take_off (Some I32) now) (λ x. branch due x))) after w.second in
+      go_on (holds BranchTypes now (list_all (agrees cx due) labels)) (λ all_agree.
+      go_on (take_off (Some I32) now) (λ x. branch due x))) after w.second in
       let due = w'.middle in
       let w'' = went (holds BranchTypes now (list_all (agrees cx due) labels)) (λ all_agree. go_on (take_off (Some I32) now) (λ x. branch due x)) after w'.second in
       let u = went (take_off (Some I32) now) (λ x. branch due x) after w''.second in
@@ -234,8 +232,8 @@ module _ (cx : Context) where
         takes = ap (λ (ts : List ValType). take_arguments ts st.operands) fits.params_are ∙ a.is;
         arguments = subst (λ (ts : List ValType). AreOf ts a.taken.arguments) (sym fits.params_are) a.are;
         behind = λ values are.
-          subst (λ (x : Walk). Falls x (values ++ a.taken.under)) (same_walk (lay_result type.result w.middle) after w.second)
-          (laid_result type.result values a.taken.under w.middle (subst (λ (t : Option ValType). AreOf (option_to_list t) values) fits.result_is are) a.rest);
+            subst (λ (x : Walk). Falls x (values ++ a.taken.under)) (same_walk (lay_result type.result w.middle) after w.second)
+            (laid_result type.result values a.taken.under w.middle (subst (λ (t : Option ValType). AreOf (option_to_list t) values) fits.result_is are) a.rest);
         ready = ready;
       }
 

@@ -1,10 +1,10 @@
 -- The instance of a program has the functions of its module, and each that it defines is typed.
-use Rattle.std.proofs.Common.{◌≡◌, ◌⊎◌, inl, inr, ℕ, zero, suc, ◌+◌, ◌-◌, ◌<◌, ◌≤◌, ◌==◌, Bool, true, false, cond, not, ◌&&◌, nat_lt, nat_le, List, [], ◌∷◌, ◌++◌, length, map, filter_map, Option, Some, None, Result, Ok, Err, slice_get, refl, sym, ap, subst, ◌∙◌, option_and_then, arith, length-append}
+use Rattle.std.proofs.Common.{◌≡◌, ◌⊎◌, inl, inr, ℕ, zero, suc, ◌+◌, ◌-◌, ◌<◌, ◌≤◌, Bool, true, false, nat_lt, List, [], ◌∷◌, ◌++◌, length, filter_map, Option, Some, None, Result, Ok, Err, slice_get, refl, sym, ap, subst, ◌∙◌, option_and_then, arith}
 use Rattle.std.proofs.lemmas.Bool.Decides.{nat_tests}
 use Rattle.std.specs.List.{AllByRecursion, cons_option}
 use Rattle.wasm_ops.proofs.NestedLaws.{ahead_of-body}
-use Rattle.wasm_ops.specs.Sequence.{Sequence, Done, Plain, InBlock, InLoop, InIf, InIfElse, IsNested, size, flat, flat_body}
-use Rattle.wasm_ops.specs.Nested.{IsBodyOf, Ahead, UpTo, AtEnd, ahead_of}
+use Rattle.wasm_ops.specs.Sequence.{Sequence, Done, Plain, InBlock, InLoop, InIf, InIfElse, IsNested, size, flat}
+use Rattle.wasm_ops.specs.Nested.{Ahead}
 use Rattle.wasm_ops.specs.WellFormed.{IsOperator, IsWellFormedBody, IsWellFormed}
 use Rattle.wasm_ops.specs.declared.host_calls.HostName.{HostName}
 use Rattle.wasm_ops.specs.declared.modules.Body.{Body}
@@ -13,24 +13,23 @@ use Rattle.wasm_ops.specs.declared.modules.ImportItem.{ImportItem}
 use Rattle.wasm_ops.specs.declared.modules.ImportItem.TheVariants as item
 use Rattle.wasm_ops.specs.declared.modules.Module.{Module}
 use Rattle.wasm_ops.specs.declared.operators.Op.{Op}
-use Rattle.wasm_ops.specs.declared.operators.Op.TheVariants.{Block, Loop, If, Else, End}
+use Rattle.wasm_ops.specs.declared.operators.Op.TheVariants.{Else, End}
 use Rattle.wasm_ops.specs.declared.types.FuncType.{FuncType}
 use Rattle.wasm_meaning.specs.declared.blocks.BlockKind.TheVariants.{BlockBody}
 use Rattle.wasm_meaning.specs.declared.links.LinkRule.TheVariants.{ImportType}
 use Rattle.wasm_meaning.specs.declared.violations.Violation.{Violation}
-use Rattle.wasm_meaning.specs.declared.violations.Broken.{Broken}
-use Rattle.wasm_meaning.specs.Control.{Callee, Host, Defined, defined_callee, imported_or, callee_at, same_function_type}
+use Rattle.wasm_meaning.specs.Control.{Host, Defined, defined_callee, imported_or}
 use Rattle.wasm_meaning.specs.HostCalls.{host_type}
-use Rattle.wasm_meaning.specs.Linking.{first_refused, host_in, has_host_type, host_refusal, item_refusal, import_refusal, link_refusal}
+use Rattle.wasm_meaning.specs.Linking.{first_refused, host_in, has_host_type, item_refusal, import_refusal, link_refusal}
 use Rattle.wasm_meaning.specs.Programs.{Program, IsProgram, function_of, or_bare, defined_from, defined, hosts, instance_of}
-use Rattle.wasm_meaning.specs.State.{Function, Instance}
-use Rattle.wasm_meaning.specs.Typing.{Context, context_of, typed, ended, sequence_in, nested_body, typed_body, body_typed}
+use Rattle.wasm_meaning.specs.State.{Function}
+use Rattle.wasm_meaning.specs.Typing.{context_of, typed, ended, sequence_in, nested_body, body_typed}
 use Rattle.wasm_meaning.specs.TypingOperands.{Walk, start}
 use Rattle.wasm_meaning.specs.Validity.{in_body, typed_in, body_walk, next_body, bodies_walk, outside_walk, module_walk}
 use Rattle.wasm_meaning.specs.ValiditySpaces.{as_function, imported, functions, count_imported, function_type, body_type}
-use Rattle.wasm_meaning.proofs.Fits.{Went, went}
-use Rattle.wasm_meaning.proofs.ModuleFacts.{get_behind, get_past, At, get_at, is_within, all_at, all_front, all_rest, passes_both, Checked, each_checked, none_of_all, first_is_fine, holds_unless}
-use Rattle.wasm_meaning.proofs.Ready.{IsFair, TypedFunction, CalleeFits, CalleeAt, HasType, InstanceFits}
+use Rattle.wasm_meaning.proofs.Fits.{went}
+use Rattle.wasm_meaning.proofs.ModuleFacts.{get_behind, get_past, get_at, is_within, all_at, all_front, all_rest, passes_both, each_checked, none_of_all, first_is_fine, holds_unless}
+use Rattle.wasm_meaning.proofs.Ready.{IsFair, TypedFunction, CalleeAt, HasType, InstanceFits}
 use Rattle.wasm_meaning.proofs.SafeControl.{function_types_equal}
 
 -- Bodies.
@@ -41,28 +40,32 @@ fair_flat targets Done at is all = tt
 fair_flat targets (Plain o rest) at is all = (is.0, all.0, fair_flat targets rest (at + 1) is.1 all.1)
 fair_flat targets (InBlock t body rest) at is all =
     let held = flat (at + 1) body in
-    let behind = End ∷ flat (at + 2 + size body) rest in
-    (fair_flat targets body (at + 1) is.0 (all_front (IsOperator targets) held behind all.1),
-      fair_flat targets rest (at + 2 + size body) is.1 (all_rest (IsOperator targets) held behind all.1).1)
+    let behind = End ∷ flat (at + 2 + size body) rest in (
+      fair_flat targets body (at + 1) is.0 (all_front (IsOperator targets) held behind all.1),
+      fair_flat targets rest (at + 2 + size body) is.1 (all_rest (IsOperator targets) held behind all.1).1,
+    )
 fair_flat targets (InLoop t body rest) at is all =
     let held = flat (at + 1) body in
-    let behind = End ∷ flat (at + 2 + size body) rest in
-    (fair_flat targets body (at + 1) is.0 (all_front (IsOperator targets) held behind all.1),
-      fair_flat targets rest (at + 2 + size body) is.1 (all_rest (IsOperator targets) held behind all.1).1)
+    let behind = End ∷ flat (at + 2 + size body) rest in (
+      fair_flat targets body (at + 1) is.0 (all_front (IsOperator targets) held behind all.1),
+      fair_flat targets rest (at + 2 + size body) is.1 (all_rest (IsOperator targets) held behind all.1).1,
+    )
 fair_flat targets (InIf t inner rest) at is all =
     let held = flat (at + 1) inner in
-    let behind = End ∷ flat (at + 2 + size inner) rest in
-    (fair_flat targets inner (at + 1) is.0 (all_front (IsOperator targets) held behind all.1),
-      fair_flat targets rest (at + 2 + size inner) is.1 (all_rest (IsOperator targets) held behind all.1).1)
+    let behind = End ∷ flat (at + 2 + size inner) rest in (
+      fair_flat targets inner (at + 1) is.0 (all_front (IsOperator targets) held behind all.1),
+      fair_flat targets rest (at + 2 + size inner) is.1 (all_rest (IsOperator targets) held behind all.1).1,
+    )
 fair_flat targets (InIfElse t inner other rest) at is all =
     let held = flat (at + 1) inner in
     let second = flat (at + 2 + size inner) other in
     let behind = End ∷ flat (at + 3 + size inner + size other) rest in
     let both = Else (at + 2 + size inner + size other) ∷ (second ++ behind) in
-    let more = (all_rest (IsOperator targets) held both all.1).1 in
-    (fair_flat targets inner (at + 1) is.0 (all_front (IsOperator targets) held both all.1),
+    let more = (all_rest (IsOperator targets) held both all.1).1 in (
+      fair_flat targets inner (at + 1) is.0 (all_front (IsOperator targets) held both all.1),
       fair_flat targets other (at + 2 + size inner) is.1 (all_front (IsOperator targets) second behind more),
-      fair_flat targets rest (at + 3 + size inner + size other) is.2 (all_rest (IsOperator targets) second behind more).1)
+      fair_flat targets rest (at + 3 + size inner + size other) is.2 (all_rest (IsOperator targets) second behind more).1,
+    )
 
 fair_body : (body : Body) → IsWellFormedBody body → IsFair (length body.targets) (nested_body body.ops)
 fair_body body formed =
@@ -173,8 +176,8 @@ linked_host types import (Some host) (item.Function index) named is e = by (slic
 record HostsFit (types : List FuncType) (names : List HostName) (indices : List ℕ) : Type 0 where
   as_many : length names ≡ length indices
   each
-    : (j index : ℕ) → slice_get indices j ≡ Some index
-    → (host : HostName) × (slice_get names j ≡ Some host) × (slice_get types index ≡ Some (host_type host))
+      : (j index : ℕ) → slice_get indices j ≡ Some index
+      → (host : HostName) × (slice_get names j ≡ Some host) × (slice_get types index ≡ Some (host_type host))
 
 no_hosts : (types : List FuncType) → HostsFit types [] []
 no_hosts types = record { as_many = refl; each = λ j index e. let bad : ⊥ = cc in absurd bad }
@@ -273,8 +276,8 @@ own_callee m pages formed valid links index type behind is =
     record {
       callee = Defined d.function;
       is = ap (λ (o : Option HostName). imported_or o inst index) none
-        ∙ ap (λ (k : ℕ). defined_callee (slice_get (defined m) k)) place
-        ∙ ap (λ (o : Option Function). defined_callee o) d.is;
+          ∙ ap (λ (k : ℕ). defined_callee (slice_get (defined m) k)) place
+          ∙ ap (λ (o : Option Function). defined_callee o) d.is;
       fits = d.fits;
     }
 

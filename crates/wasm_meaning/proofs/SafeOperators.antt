@@ -1,5 +1,5 @@
 -- Numeric, parametric, variable and memory operators that are typed find their operands.
-use Rattle.std.proofs.Common.{◌≡◌, ℕ, zero, suc, ◌+◌, ◌^◌, ◌-◌, ◌==◌, Bool, true, false, cond, nat_le, List, [], ◌∷◌, ◌++◌, map, Option, Some, None, Result, Ok, Err, slice_get, slice_set, refl, sym, ap, subst, ◌∙◌, option_map}
+use Rattle.std.proofs.Common.{◌≡◌, ℕ, zero, suc, ◌+◌, ◌^◌, ◌-◌, ◌==◌, Bool, true, false, cond, List, [], ◌∷◌, Option, Some, None, Result, Ok, Err, slice_get, refl, sym, ap, subst, ◌∙◌, option_map}
 use Rattle.wasm_ops.specs.Arithmetic.{one_operand, two_operands}
 use Rattle.wasm_ops.specs.Operations.{operand_of, result_of, takes_one}
 use Rattle.wasm_ops.specs.declared.operations.Operation.{Operation}
@@ -11,20 +11,20 @@ use Rattle.wasm_meaning.specs.declared.blocks.GlobalType.{GlobalType}
 use Rattle.wasm_meaning.specs.declared.violations.Rule.{Rule}
 use Rattle.wasm_meaning.specs.declared.violations.Violation.{Violation}
 use Rattle.wasm_meaning.specs.Bytes.{loaded, stored, size_of, grown}
-use Rattle.wasm_meaning.specs.Effects.{Effect, Goes, Traps, Breaks, Taken, take_off as last_of, take_i32}
-use Rattle.wasm_meaning.specs.Memory.{load_effect, load_from, load_of, store_effect, store_from, store_to, store_of, size_effect, grow_effect, grow_from, grow_of, widened}
+use Rattle.wasm_meaning.specs.Effects.{Goes, Taken}
+use Rattle.wasm_meaning.specs.Memory.{load_effect, load_from, load_of, store_effect, store_from, store_to, store_of, grow_effect, grow_from, grow_of, widened}
 use Rattle.wasm_meaning.specs.Numeric.{unary_effect, unary_of, unary_on, binary_effect, binary_of, binary_on, binary_first, computed}
 use Rattle.wasm_meaning.specs.Parametric.{drop_effect, drop_from, select_effect, select_on, select_from, select_of, chosen}
-use Rattle.wasm_meaning.specs.State.{State, push, with_operands, with_locals, with_globals, with_memory}
+use Rattle.wasm_meaning.specs.State.{State, push, with_operands, with_locals, with_globals}
 use Rattle.wasm_meaning.specs.Typing.{Context, with_memory as has_memory, aligned, load, store, set_global, one_operand as one_typed, two_operands as two_typed}
-use Rattle.wasm_meaning.specs.TypingOperands.{Walk, Operand, known, holds, pull, take_off, lay, gives, unary, binary, select, keep_result, take_result, lay_result}
+use Rattle.wasm_meaning.specs.TypingOperands.{Walk, Operand, known, holds, pull, take_off, lay, gives, unary, select, keep_result, take_result, lay_result}
 use Rattle.wasm_meaning.specs.ValidityChecks.{go_on}
 use Rattle.wasm_meaning.specs.ValiditySpaces.{globals}
 use Rattle.wasm_meaning.specs.Values.{Value, Int32, Int64, type_of, value_of, number_in, has_type}
-use Rattle.wasm_meaning.specs.Variable.{replaced, local_get, local_set, local_set_from, local_tee, local_tee_from, sets_locals, global_get, global_set, global_set_from, sets_globals}
+use Rattle.wasm_meaning.specs.Variable.{local_get, local_set, local_set_from, local_tee, local_tee_from, sets_locals, global_get, global_set, global_set_from, sets_globals}
 use Rattle.wasm_meaning.specs.Effects.{gives as lays}
-use Rattle.wasm_meaning.proofs.Fits.{Went, went, AreOf, Found, found, Replaces, replaces, IsOne, Fit, Falls, Off, off, OffAny, off_any, Pulled, pulled, has_value_of, same_types_equal}
-use Rattle.wasm_meaning.proofs.Ready.{Ready, GoFits, EffectFits, types_of, told, with_others, goes_on}
+use Rattle.wasm_meaning.proofs.Fits.{went, found, Replaces, replaces, IsOne, Falls, off, off_any, pulled, has_value_of}
+use Rattle.wasm_meaning.proofs.Ready.{Ready, EffectFits, types_of, told, goes_on}
 
 pub known_is : {A : Type 0} (rule : Rule) (now : Walk) (o : Option A) (x : A) → known rule now o ≡ Ok x → o ≡ Some x
 known_is rule now None x e = let bad : ⊥ = cc in absurd bad

@@ -1,9 +1,9 @@
 -- The run of a program never gets stuck: its fresh state fits what typing knows, and each entry is typed.
-use Rattle.std.proofs.Common.{◌≡◌, ℕ, zero, suc, ◌+◌, ◌-◌, ◌<◌, ◌≤◌, ◌==◌, Bool, true, false, cond, not, ◌&&◌, nat_lt, nat_le, List, [], ◌∷◌, ◌++◌, length, map, take, drop, replicate, filter_map, Option, Some, None, Result, Ok, Err, slice_get, is_some, refl, sym, ap, subst, ◌∙◌, option_and_then, option_map, option_to_list, arith, length-append}
+use Rattle.std.proofs.Common.{◌≡◌, ℕ, zero, suc, ◌+◌, ◌-◌, ◌<◌, ◌≤◌, ◌==◌, Bool, true, false, cond, not, nat_lt, List, [], ◌∷◌, ◌++◌, length, map, take, drop, replicate, Option, Some, None, Ok, slice_get, is_some, refl, sym, ap, subst, ◌∙◌, option_and_then, option_map, option_to_list, arith}
 use Rattle.std.proofs.lemmas.Bool.Decides.{nat_tests}
 use Rattle.std.specs.List.{AllByRecursion, list_all, cons_option}
 use Rattle.std.specs.Prelude.{unwrap_or}
-use Rattle.wasm_ops.specs.Sequence.{Sequence, Done}
+use Rattle.wasm_ops.specs.Sequence.{Done}
 use Rattle.wasm_ops.specs.WellFormed.{IsWellFormed}
 use Rattle.wasm_ops.specs.declared.modules.ElementSegment.{ElementSegment}
 use Rattle.wasm_ops.specs.declared.modules.Export.{Export}
@@ -14,30 +14,28 @@ use Rattle.wasm_ops.specs.declared.modules.ImportItem.TheVariants as item
 use Rattle.wasm_ops.specs.declared.modules.Module.{Module}
 use Rattle.wasm_ops.specs.declared.types.FuncType.{FuncType}
 use Rattle.wasm_ops.specs.declared.types.ValType.{ValType}
-use Rattle.wasm_ops.specs.declared.types.ValType.TheVariants.{I32, I64}
+use Rattle.wasm_ops.specs.declared.types.ValType.TheVariants.{I32}
 use Rattle.wasm_meaning.specs.declared.blocks.GlobalType.{GlobalType}
 use Rattle.wasm_meaning.specs.declared.links.LinkRule.TheVariants.{StartShape}
-use Rattle.wasm_meaning.specs.declared.violations.Rule.{Rule}
 use Rattle.wasm_meaning.specs.declared.violations.Rule.TheVariants.{UnknownIndex, StartType, ConstantType}
-use Rattle.wasm_meaning.specs.Control.{same_function_type, take_arguments}
-use Rattle.wasm_meaning.specs.Execution.{call, caller_of, left_call, walk, exec}
+use Rattle.wasm_meaning.specs.Control.{take_arguments}
+use Rattle.wasm_meaning.specs.Execution.{walk, exec}
 use Rattle.wasm_meaning.specs.Linking.{first_refused, import_refusal, item_refusal, host_in, told_at, takes_nothing, is_entry, entry_refusal, export_named, entry_name, link_refusal, first_elements}
-use Rattle.wasm_meaning.specs.Pending.{Around, Entering, Pending, entering, enter, close_entry, close, outward, onward}
-use Rattle.wasm_meaning.specs.Programs.{Program, IsProgram, defined, instance_of, first_global, laid, with_elements, first_table, fresh_store, fresh_state, body_number, start_body, entry_body, entries, first}
+use Rattle.wasm_meaning.specs.Pending.{Entering, entering, enter, close_entry, close, outward}
+use Rattle.wasm_meaning.specs.Programs.{Program, IsProgram, defined, instance_of, first_global, laid, with_elements, first_table, fresh_store, fresh_state, body_number, start_body, entry_body, entries}
 use Rattle.wasm_meaning.specs.Requests.{Request, Verdict, Replied, Exit, Trap, BudgetSpent, run_of, concluded, verdict}
-use Rattle.wasm_meaning.specs.State.{Function, Instance, Store, State, Outcome, Fell, Branched, Returned, Trapped, Exited, Spent, Stuck, Run, Go, Runner, ends, after}
+use Rattle.wasm_meaning.specs.State.{Function, Instance, State, Outcome, Fell, Branched, Returned, Trapped, Exited, Spent, Stuck, Run, ends, after}
 use Rattle.wasm_meaning.specs.Typing.{Context}
-use Rattle.wasm_meaning.specs.TypingOperands.{Walk, start, same_type}
+use Rattle.wasm_meaning.specs.TypingOperands.{start, same_type}
 use Rattle.wasm_meaning.specs.Validity.{is_unknown, are_known, function_rule, global_rule, is_bare, entered_rule, start_rule, element_rule, imports_walk, functions_walk, tables_walk, memories_walk, globals_walk, exports_walk, start_walk, elements_walk, segments_walk, bodies_walk, outside_walk, module_walk}
-use Rattle.wasm_meaning.specs.ValidityChecks.{each_item}
 use Rattle.wasm_meaning.specs.ValiditySpaces.{as_function, as_global, imported, functions, tables, globals, defined_global, count_imported, function_type}
-use Rattle.wasm_meaning.specs.Values.{Value, value_of, has_type}
+use Rattle.wasm_meaning.specs.Values.{Value, has_type}
 use Rattle.wasm_meaning.proofs.Fits.{AreOf, Falls, same_types_equal, has_value_of}
-use Rattle.wasm_meaning.proofs.ModuleFacts.{At, get_at, is_within, get_behind, all_at, all_joined, all_taken, all_dropped, and_both, not_false, below_of, is_less, passes_both, each_keeps, keeps_rule, no_rule, none_of_all, not_told, first_is_fine, holds_unless}
-use Rattle.wasm_meaning.proofs.Ready.{TypedFunction, InstanceFits, FrameFits, StoreFits, HasType, Ready, GoFits, types_of}
+use Rattle.wasm_meaning.proofs.ModuleFacts.{At, get_at, get_behind, all_at, all_joined, all_taken, all_dropped, and_both, not_false, below_of, is_less, passes_both, each_keeps, keeps_rule, no_rule, none_of_all, not_told, first_is_fine, holds_unless}
+use Rattle.wasm_meaning.proofs.Ready.{InstanceFits, StoreFits, HasType, GoFits, types_of}
 use Rattle.wasm_meaning.proofs.SafeControl.{function_types_equal}
 use Rattle.wasm_meaning.proofs.SafeInstances.{DefinedAt, defined_at, imports_link, imported_has_type, instance_fits}
-use Rattle.wasm_meaning.proofs.SafeRuns.{RunFits, MayEnd, NextFits, BackFits, RunnerFits, call_fits, exec_fits}
+use Rattle.wasm_meaning.proofs.SafeRuns.{RunFits, MayEnd, call_fits, exec_fits}
 
 -- The walks of a valid module.
 
@@ -174,8 +172,8 @@ store_fits : (program : Program) → IsProgram program → (body : List ℕ) →
 store_fits program is body =
     let m = program.linked in
     let all = elements_laid m (replicate (first_elements m) None) m.elements
-      (λ j s e. all_elements m s.functions (function_has_type m program.pages is.valid is.links) (element_is_known m (walks m is.valid).elements_pass j s e))
-      (none_elements m (first_elements m)) in
+    (λ j s e. all_elements m s.functions (function_has_type m program.pages is.valid is.links) (element_is_known m (walks m is.valid).elements_pass j s e))
+    (none_elements m (first_elements m)) in
     record {
       variables = variables_fit m program.pages is.valid is.links;
       table = λ place index e. all_at (IsElement m) (first_table m) place (Some index) all e;
@@ -229,6 +227,7 @@ start_fits m formed valid = by m.start (start_is_fine m (walks m valid).start_pa
     entered index (Some t) is e =
         let bare = not_false (is_bare t) (keeps_rule (not (is_bare t)) StartType [] e).0 in
         bare_entry m formed valid index (is ∙ ap (λ (u : FuncType). Some u) (nothing_taken t bare))
+
     by : (o : Option ℕ) → start_rule m o ≡ None → AllByRecursion (EntryFits m) (option_to_list (option_and_then (body_number m) o))
     by None e = tt
     by (Some index) e = entered index (function_type m index) refl e
@@ -247,6 +246,7 @@ entry_fits m pages formed valid links = by (export_named entry_name m.exports) (
     typed_entry index (Some t) is e =
         let same = function_types_equal (record { params = []; result = None }) t e in
         bare_entry m formed valid index (is ∙ ap (λ (u : FuncType). Some u) (sym same))
+
     by
         : (o : Option Export) → entry_refusal m o ≡ None
         → AllByRecursion (EntryFits m) (option_to_list (option_and_then (body_number m) (option_map (λ (export : Export). export.index) o)))

@@ -1,5 +1,5 @@
 -- A sequence that is typed never gets stuck: wherever its run ends, the state fits what typing knows there.
-use Rattle.std.proofs.Common.{◌≡◌, ℕ, zero, suc, ◌==◌, ◌-◌, Bool, true, false, cond, nat_lt, List, [], ◌∷◌, ◌++◌, length, map, Option, Some, None, Result, Ok, Err, slice_get, refl, sym, ap, subst, ◌∙◌, append-nil}
+use Rattle.std.proofs.Common.{◌≡◌, ℕ, zero, suc, ◌==◌, ◌-◌, Bool, true, false, cond, nat_lt, List, [], ◌∷◌, ◌++◌, length, map, Option, Some, None, Result, Ok, refl, sym, ap, subst, ◌∙◌, append-nil}
 use Rattle.std.specs.Prelude.{option_to_list}
 use Rattle.wasm_ops.specs.Sequence.{Sequence, Done, Plain, InBlock, InLoop, InIf, InIfElse}
 use Rattle.wasm_ops.specs.declared.traps.Trap.{Trap}
@@ -15,13 +15,13 @@ use Rattle.wasm_meaning.specs.Effects.{Effect, Goes, Branches, Returns, Calls, A
 use Rattle.wasm_meaning.specs.Execution.{pay_if, pay, kept, with_result, close_block, close_loop, in_block, in_loop, choose_by, choose, has_room, Caller, caller_of, entered, left_call, leave_call, close_call, call_within, call_with, call, after_host, answered, act, walk, exec, nothing_left}
 use Rattle.wasm_meaning.specs.HostCalls.{HostAnswer, Gives, Exits, HostEffect}
 use Rattle.wasm_meaning.specs.Operators.{effect, price_of, unit}
-use Rattle.wasm_meaning.specs.State.{Function, Instance, State, Outcome, Fell, Branched, Returned, Trapped, Exited, Spent, Stuck, Run, Go, Runner, Next, ends, paid, after, with_operands}
+use Rattle.wasm_meaning.specs.State.{Function, Instance, State, Outcome, Fell, Branched, Returned, Trapped, Exited, Spent, Stuck, Run, Go, Runner, Next, after, with_operands}
 use Rattle.wasm_meaning.specs.Typing.{Context, plain, next as past, enter, label_of, within, lacks_else, emptied_of, emptied, ended, back, leave, turn, typed}
 use Rattle.wasm_meaning.specs.TypingOperands.{Walk, Operand, breaks, take_off, take_result, lay_result, start}
 use Rattle.wasm_meaning.specs.ValidityChecks.{go_on}
 use Rattle.wasm_meaning.specs.Values.{Value, Int32, zero_of, number_in}
-use Rattle.wasm_meaning.proofs.Fits.{Went, went, AreOf, append_are, zeros_are, Fit, Falls, Off, off, Keeps, keeps_all, TookResult, took_result, laid_result}
-use Rattle.wasm_meaning.proofs.Ready.{IsFair, inside, TypedFunction, InstanceFits, FrameFits, Ready, BranchFits, ReturnFits, CallFits, AskFits, GoFits, EffectFits}
+use Rattle.wasm_meaning.proofs.Fits.{went, AreOf, append_are, zeros_are, Fit, Falls, off, Keeps, keeps_all, took_result, laid_result}
+use Rattle.wasm_meaning.proofs.Ready.{IsFair, inside, TypedFunction, InstanceFits, Ready, BranchFits, ReturnFits, AskFits, GoFits, EffectFits}
 use Rattle.wasm_meaning.proofs.SafeOperators.{same_walk}
 use Rattle.wasm_meaning.proofs.SafeControl.{plain_fits}
 
@@ -192,14 +192,14 @@ close_loop_behind cx end t now inner done base turns next e falls again go Stuck
 -- each function that is typed runs safely
 pub record RunnerFits (inst : Instance) (again : Runner) : Type 0 where
   pub runs
-    : (cx : Context) (targets : ℕ) (s : Sequence) (now end : Walk) → InstanceFits cx.whole inst → IsFair targets s → typed cx s now ≡ Ok end
-    → ContinueFits (OutcomeFits cx end) cx now (again s)
+      : (cx : Context) (targets : ℕ) (s : Sequence) (now end : Walk) → InstanceFits cx.whole inst → IsFair targets s → typed cx s now ≡ Ok end
+      → ContinueFits (OutcomeFits cx end) cx now (again s)
 
 -- back in the caller, with the result
 pub record BackFits (P : Outcome → State → Type 0) (cx : Context) (f : Function) (caller : Caller) (next : Go) : Type 0 where
   pub from
-    : (st : State) (values : List Value) (left : ℕ) → AreOf (option_to_list f.result) values → Ready (inside cx.whole f) st
-    → RunFits P (next (left_call caller st values) left)
+      : (st : State) (values : List Value) (left : ℕ) → AreOf (option_to_list f.result) values → Ready (inside cx.whole f) st
+      → RunFits P (next (left_call caller st values) left)
 
 leave_fits
     : (P : Outcome → State → Type 0) (cx : Context) (f : Function) (caller : Caller) (next : Go) → BackFits P cx f caller next
@@ -285,8 +285,8 @@ module _ (inst : Instance) (again : Runner) (runner : RunnerFits inst again) whe
       fits.takes fits.arguments
       (record {
         from = λ st' values l are ready.
-          go.from (left_call (caller_of to fits.taken.under) st' values) l
-          (record { falls = fits.behind values are; ready = record { frame = fits.ready.frame; store = ready.store } });
+            go.from (left_call (caller_of to fits.taken.under) st' values) l
+            (record { falls = fits.behind values are; ready = record { frame = fits.ready.frame; store = ready.store } });
       })
       fits.ready
   act_fits cx end between inst_fits st (Asks host to) next left fits go = answered_fits cx end between host host.answer to left next refl fits go
@@ -302,12 +302,12 @@ module _ (inst : Instance) (again : Runner) (runner : RunnerFits inst again) whe
       → ContinueFits (OutcomeFits cx end) cx outer (in_block t body next)
   block_fits cx end kind t outer entry inner done done' body next same e firm none inner_fits go = record {
     from = λ st left fits.
-      after_fits (OutcomeFits (within kind t cx) inner) (OutcomeFits cx end) (body (with_operands st []) left) (close_block t st.operands next)
-      (inner_fits.from (with_operands st []) left (record {
-        falls = (firm, subst (λ (ts : List Operand). Fit ts []) (sym none) tt);
-        ready = ready_inside kind t cx st [] fits.ready;
-      }))
-      (close_block_fits cx end kind t outer inner done done' st.operands next same e fits.falls go);
+        after_fits (OutcomeFits (within kind t cx) inner) (OutcomeFits cx end) (body (with_operands st []) left) (close_block t st.operands next)
+        (inner_fits.from (with_operands st []) left (record {
+          falls = (firm, subst (λ (ts : List Operand). Fit ts []) (sym none) tt);
+          ready = ready_inside kind t cx st [] fits.ready;
+        }))
+        (close_block_fits cx end kind t outer inner done done' st.operands next same e fits.falls go);
   }
 
   choose_fits_of
@@ -349,9 +349,9 @@ module _ (inst : Instance) (again : Runner) (runner : RunnerFits inst again) whe
       let behind = past_fits (OutcomeFits cx end) cx w.middle (walk inst again rest) (walk_fits targets rest cx (past w.middle) end inst_fits fair.2 w.second) in
       record {
         from = λ st left fits.
-          pay_fits (OutcomeFits cx end) (sequence_ends cx end) (price_of (effect inst o st)) st left (act again st (effect inst o st) (walk inst again rest))
-          (λ l. act_fits cx end w.middle inst_fits st (effect inst o st) (walk inst again rest) l
-          (plain_fits cx inst inst_fits o targets now w.middle st fair.0 fair.1 w.first fits.falls fits.ready) behind);
+            pay_fits (OutcomeFits cx end) (sequence_ends cx end) (price_of (effect inst o st)) st left (act again st (effect inst o st) (walk inst again rest))
+            (λ l. act_fits cx end w.middle inst_fits st (effect inst o st) (walk inst again rest) l
+            (plain_fits cx inst inst_fits o targets now w.middle st fair.0 fair.1 w.first fits.falls fits.ready) behind);
       }
   walk_fits targets (InBlock t body rest) cx now end inst_fits fair e =
       let w = went (typed (within BlockBody t cx) body (enter now)) (λ inner. go_on (leave BlockBody t now inner) (λ x. typed cx rest x)) end e in
@@ -359,11 +359,11 @@ module _ (inst : Instance) (again : Runner) (runner : RunnerFits inst again) whe
       let l = went (ended BlockBody t w.middle) (λ done. Ok (past (lay_result t (back now done)))) w'.middle w'.first in
       let inside_fits = walk_fits targets body (within BlockBody t cx) (enter now) w.middle inst_fits fair.0 w.first in
       let behind = known_behind (OutcomeFits cx end) cx t now l.middle w'.middle (walk inst again rest) l.second
-        (walk_fits targets rest cx w'.middle end inst_fits fair.1 w'.second) in
+      (walk_fits targets rest cx w'.middle end inst_fits fair.1 w'.second) in
       let block = block_fits cx end BlockBody t now (enter now) w.middle l.middle l.middle (walk inst again body) (walk inst again rest) refl l.first refl refl inside_fits behind in
       record {
         from = λ st left fits.
-          pay_fits (OutcomeFits cx end) (sequence_ends cx end) unit st left (in_block t (walk inst again body) (walk inst again rest) st) (λ k. block.from st k fits);
+            pay_fits (OutcomeFits cx end) (sequence_ends cx end) unit st left (in_block t (walk inst again body) (walk inst again rest) st) (λ k. block.from st k fits);
       }
   walk_fits targets (InLoop t body rest) cx now end inst_fits fair e =
       let w = went (typed (within LoopBody t cx) body (enter now)) (λ inner. go_on (leave LoopBody t now inner) (λ x. typed cx rest x)) end e in
@@ -371,18 +371,18 @@ module _ (inst : Instance) (again : Runner) (runner : RunnerFits inst again) whe
       let l = went (ended LoopBody t w.middle) (λ done. Ok (past (lay_result t (back now done)))) w'.middle w'.first in
       let inside_fits = walk_fits targets body (within LoopBody t cx) (enter now) w.middle inst_fits fair.0 w.first in
       let behind = known_behind (OutcomeFits cx end) cx t now l.middle w'.middle (walk inst again rest) l.second
-        (walk_fits targets rest cx w'.middle end inst_fits fair.1 w'.second) in
+      (walk_fits targets rest cx w'.middle end inst_fits fair.1 w'.second) in
       let turns = runner.runs cx targets (InLoop t body rest) now end inst_fits fair e in
       record {
         from = λ st left fits.
-          pay_fits (OutcomeFits cx end) (sequence_ends cx end) unit st left (in_loop (walk inst again body) (again (InLoop t body rest)) (walk inst again rest) st)
-          (λ k.
-          after_fits (OutcomeFits (within LoopBody t cx) w.middle) (OutcomeFits cx end) (walk inst again body (with_operands st []) k)
-          (close_loop st.operands (again (InLoop t body rest)) (walk inst again rest))
-          (inside_fits.from (with_operands st []) k (record { falls = (refl, tt); ready = ready_inside LoopBody t cx st [] fits.ready }))
-          (record {
-            behind = close_loop_behind cx end t now w.middle l.middle st.operands (again (InLoop t body rest)) (walk inst again rest) l.first fits.falls turns behind;
-          }));
+            pay_fits (OutcomeFits cx end) (sequence_ends cx end) unit st left (in_loop (walk inst again body) (again (InLoop t body rest)) (walk inst again rest) st)
+            (λ k.
+            after_fits (OutcomeFits (within LoopBody t cx) w.middle) (OutcomeFits cx end) (walk inst again body (with_operands st []) k)
+            (close_loop st.operands (again (InLoop t body rest)) (walk inst again rest))
+            (inside_fits.from (with_operands st []) k (record { falls = (refl, tt); ready = ready_inside LoopBody t cx st [] fits.ready }))
+            (record {
+              behind = close_loop_behind cx end t now w.middle l.middle st.operands (again (InLoop t body rest)) (walk inst again rest) l.first fits.falls turns behind;
+            }));
       }
   walk_fits targets (InIf t inner rest) cx now end inst_fits fair e =
       let o = went (take_off (Some I32) now) (λ outer. go_on (typed (within ThenBranch t cx) inner (enter outer)) (λ one. go_on (leave ThenBranch t outer one) (λ x. typed cx rest x))) end e in
@@ -396,15 +396,16 @@ module _ (inst : Instance) (again : Runner) (runner : RunnerFits inst again) whe
       let passed = passed_fits cx end t o.middle l.middle (walk inst again rest) (no_else t w.middle l.middle l.first) behind in
       record {
         from = λ st left fits.
-          pay_fits (OutcomeFits cx end) (sequence_ends cx end) unit st left
-          (choose (take_i32 st.operands) (in_block t (walk inst again inner) (walk inst again rest)) (walk inst again rest) st)
-          (λ k. choose_fits (OutcomeFits cx end) cx now o.middle (in_block t (walk inst again inner) (walk inst again rest)) (walk inst again rest) o.first block passed st k fits);
+            pay_fits (OutcomeFits cx end) (sequence_ends cx end) unit st left
+            (choose (take_i32 st.operands) (in_block t (walk inst again inner) (walk inst again rest)) (walk inst again rest) st)
+            (λ k. choose_fits (OutcomeFits cx end) cx now o.middle (in_block t (walk inst again inner) (walk inst again rest)) (walk inst again rest) o.first block passed st k fits);
       }
     where
       -- an if without an else has no result
       no_else : (t : Option ValType) (inner done : Walk) → ended ThenBranch t inner ≡ Ok done → t ≡ None
       no_else None inner done e = refl
       no_else (Some t) inner done e = let bad : ⊥ = cc in absurd bad
+
       passed_fits
           : (cx : Context) (end : Walk) (t : Option ValType) (outer done : Walk) (go : Go) → t ≡ None → ContinueFits (OutcomeFits cx end) cx (behind_block t outer done) go
           → ContinueFits (OutcomeFits cx end) cx outer go
@@ -413,17 +414,17 @@ module _ (inst : Instance) (again : Runner) (runner : RunnerFits inst again) whe
           record { from = λ st left fits. bare.from st left (record { falls = (fits.falls.0, fits.falls.1); ready = fits.ready }) }
   walk_fits targets (InIfElse t inner other rest) cx now end inst_fits fair e =
       let o = went (take_off (Some I32) now) (λ outer.
-        go_on (typed (within ThenBranch t cx) inner (enter outer)) (λ one.
-        go_on (turn t outer one) (λ between.
-        go_on (typed (within ElseBranch t cx) other between) (λ two.
-        go_on (leave ElseBranch t outer two) (λ x. typed cx rest x))))) end e in
+      go_on (typed (within ThenBranch t cx) inner (enter outer)) (λ one.
+      go_on (turn t outer one) (λ between.
+      go_on (typed (within ElseBranch t cx) other between) (λ two.
+      go_on (leave ElseBranch t outer two) (λ x. typed cx rest x))))) end e in
       let w = went (typed (within ThenBranch t cx) inner (enter o.middle)) (λ one.
-        go_on (turn t o.middle one) (λ between.
-        go_on (typed (within ElseBranch t cx) other between) (λ two.
-        go_on (leave ElseBranch t o.middle two) (λ x. typed cx rest x)))) end o.second in
+      go_on (turn t o.middle one) (λ between.
+      go_on (typed (within ElseBranch t cx) other between) (λ two.
+      go_on (leave ElseBranch t o.middle two) (λ x. typed cx rest x)))) end o.second in
       let b = went (turn t o.middle w.middle) (λ between.
-        go_on (typed (within ElseBranch t cx) other between) (λ two.
-        go_on (leave ElseBranch t o.middle two) (λ x. typed cx rest x))) end w.second in
+      go_on (typed (within ElseBranch t cx) other between) (λ two.
+      go_on (leave ElseBranch t o.middle two) (λ x. typed cx rest x))) end w.second in
       let v = went (typed (within ElseBranch t cx) other b.middle) (λ two. go_on (leave ElseBranch t o.middle two) (λ x. typed cx rest x)) end b.second in
       let w' = went (leave ElseBranch t o.middle v.middle) (λ x. typed cx rest x) end v.second in
       let first_end = went (ended ElseBranch t w.middle) (λ done. Ok (enter (back o.middle done))) b.middle b.first in
@@ -432,17 +433,17 @@ module _ (inst : Instance) (again : Runner) (runner : RunnerFits inst again) whe
       let one_fits = walk_fits targets inner (within ThenBranch t cx) (enter o.middle) w.middle inst_fits fair.0 w.first in
       let other_fits = walk_fits targets other (within ElseBranch t cx) b.middle v.middle inst_fits fair.1 v.first in
       let behind = known_behind (OutcomeFits cx end) cx t o.middle l.middle w'.middle (walk inst again rest) l.second
-        (walk_fits targets rest cx w'.middle end inst_fits fair.2 w'.second) in
+      (walk_fits targets rest cx w'.middle end inst_fits fair.2 w'.second) in
       let one = block_fits cx end ElseBranch t o.middle (enter o.middle) w.middle first_end.middle l.middle (walk inst again inner) (walk inst again rest) refl first_end.first refl refl
-        (as_else cx t (enter o.middle) w.middle (walk inst again inner) one_fits) behind in
+      (as_else cx t (enter o.middle) w.middle (walk inst again inner) one_fits) behind in
       let two = block_fits cx end ElseBranch t o.middle b.middle v.middle l.middle l.middle (walk inst again other) (walk inst again rest) refl l.first
-        (sym (ap (λ (x : Walk). x.loose) between_is)) (sym (ap (λ (x : Walk). x.types) between_is)) other_fits behind in
+      (sym (ap (λ (x : Walk). x.loose) between_is)) (sym (ap (λ (x : Walk). x.types) between_is)) other_fits behind in
       record {
         from = λ st left fits.
-          pay_fits (OutcomeFits cx end) (sequence_ends cx end) unit st left
-          (choose (take_i32 st.operands) (in_block t (walk inst again inner) (walk inst again rest)) (in_block t (walk inst again other) (walk inst again rest)) st)
-          (λ k. choose_fits (OutcomeFits cx end) cx now o.middle (in_block t (walk inst again inner) (walk inst again rest)) (in_block t (walk inst again other) (walk inst again rest))
-          o.first one two st k fits);
+            pay_fits (OutcomeFits cx end) (sequence_ends cx end) unit st left
+            (choose (take_i32 st.operands) (in_block t (walk inst again inner) (walk inst again rest)) (in_block t (walk inst again other) (walk inst again rest)) st)
+            (λ k. choose_fits (OutcomeFits cx end) cx now o.middle (in_block t (walk inst again inner) (walk inst again rest)) (in_block t (walk inst again other) (walk inst again rest))
+            o.first one two st k fits);
       }
     where
       -- both parts of an if have the same label

@@ -1,8 +1,8 @@
 -- Groups joined are the list of prices, and each but the last is the shortest that reaches the quantum.
-use Rattle.std.proofs.Common.{◌≡◌, ◌⊎◌, ℕ, ◌+◌, ◌≤◌, ◌<◌, Bool, true, false, cond, nat_lt, List, [], ◌∷◌, ◌++◌, sum, flat_map, refl, sym, ap, ◌∙◌, inl, inr, arith}
+use Rattle.std.proofs.Common.{◌≡◌, ◌⊎◌, ℕ, ◌+◌, ◌≤◌, ◌<◌, Bool, true, false, cond, nat_lt, List, [], ◌∷◌, ◌++◌, sum, refl, ap, ◌∙◌, inl, inr, arith}
 use Rattle.std.proofs.lemmas.Bool.Decides.{nat_tests}
 use Rattle.std.proofs.lemmas.List.Sums.{sum_by-cons}
-use Rattle.wasm_meaning.specs.Turns.{joins, groups_after, groups, IsShortest, IsLast, AreShortest, joined}
+use Rattle.wasm_meaning.specs.Turns.{joins, groups_after, groups, IsShortest, AreShortest, joined}
 
 joined-joins : (price : ℕ) (gs : List (List ℕ)) → joined (joins price gs) ≡ price ∷ joined gs
 joined-joins price [] = refl

@@ -1,10 +1,10 @@
 -- Parametric and variable operators.
-use Rattle.std.proofs.Common.{◌≡◌, ℕ, [], ◌∷◌, List, refl}
+use Rattle.std.proofs.Common.{◌≡◌, [], ◌∷◌, List, refl}
 use Rattle.wasm_ops.specs.declared.operators.Op.{Op}
 use Rattle.wasm_ops.specs.declared.operators.Op.TheVariants.{ConstI32, ConstI64, Drop, Select, LocalGet, LocalSet, LocalTee, GlobalGet, GlobalSet}
-use Rattle.wasm_meaning.proofs.Examples.{Line, line, ran, shown, run_in, inside, store_of, straight, nothing, each_paid}
+use Rattle.wasm_meaning.proofs.Examples.{Line, line, ran, shown, inside, store_of, straight, nothing, each_paid}
 use Rattle.wasm_meaning.specs.State.{Fell, Stuck}
-use Rattle.wasm_meaning.specs.Values.{Value, Int32, Int64}
+use Rattle.wasm_meaning.specs.Values.{Int32, Int64}
 
 dropped : ran (ConstI32 1 ∷ ConstI64 2 ∷ Drop ∷ []) ≡ line Fell (Int32 1 ∷ []) (each_paid 3)
 dropped = refl

@@ -1,14 +1,13 @@
 -- How a sequence runs within a budget (WebAssembly Core 1.0, sections 4.4.5 to 4.4.8).
 use Rattle.std.specs.Prelude.{ℕ, zero, suc, ◌+◌, ◌-◌, ◌==◌, nat_lt, nat_le, Bool, true, false, ◌&&◌, List, [], ◌∷◌, ◌++◌, length, map, Option, Some, None}
-use Rattle.wasm_ops.specs.Sequence.{Sequence, Done, Plain, InBlock, InLoop, InIf, InIfElse}
-use Rattle.wasm_ops.specs.declared.traps.Trap.{Trap}
+use Rattle.wasm_ops.specs.Sequence.{Done, Plain, InBlock, InLoop, InIf, InIfElse}
 use Rattle.wasm_ops.specs.declared.traps.Trap.TheVariants.{StackExhausted}
 use Rattle.wasm_ops.specs.declared.types.ValType.{ValType}
 use Rattle.wasm_meaning.specs.Control.{Arguments, take_arguments}
 use Rattle.wasm_meaning.specs.Effects.{Effect, Goes, Branches, Returns, Calls, Asks, Traps, Breaks, Taken, take_i32}
 use Rattle.wasm_meaning.specs.HostCalls.{HostAnswer, Gives, Exits, HostEffect}
 use Rattle.wasm_meaning.specs.Operators.{effect, price_of, unit}
-use Rattle.wasm_meaning.specs.State.{Function, Instance, Frame, State, Outcome, Fell, Branched, Returned, Trapped, Exited, Spent, Stuck, Run, Go, Runner, Next, ends, paid, after, with_operands, push}
+use Rattle.wasm_meaning.specs.State.{Function, Instance, Frame, State, Fell, Branched, Returned, Trapped, Exited, Spent, Stuck, Run, Go, Runner, Next, ends, paid, after, with_operands, push}
 use Rattle.wasm_meaning.specs.Values.{Value, Int32, has_type, zero_of}
 
 -- Paying.

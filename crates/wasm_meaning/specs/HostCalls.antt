@@ -1,5 +1,5 @@
 -- The functions of the host: what a call answers, what it costs, and all that it changes (WASI preview1: `fd_read`, `fd_write`, `proc_exit`; prices are this project's own).
-use Rattle.std.specs.Prelude.{ℕ, ◌+◌, ◌-◌, ◌*◌, ◌/◌, ◌^◌, ◌==◌, zero, suc, min, nat_lt, nat_le, Bool, true, false, not, ◌&&◌, ◌||◌, if◌then◌else◌, List, [], ◌∷◌, ◌++◌, length, take, drop, flat_map, slice_index, sum, map, Option, Some, None}
+use Rattle.std.specs.Prelude.{ℕ, ◌+◌, ◌*◌, ◌/◌, ◌^◌, ◌==◌, zero, suc, nat_lt, nat_le, Bool, true, not, ◌&&◌, ◌||◌, if◌then◌else◌, List, [], ◌∷◌, ◌++◌, length, take, drop, flat_map, slice_index, sum, map, Option, Some, None}
 use Rattle.wasm_ops.specs.declared.host_calls.HostName.{HostName}
 use Rattle.wasm_ops.specs.declared.host_calls.HostName.TheVariants.{FdRead, FdWrite, ProcExit}
 use Rattle.wasm_ops.specs.declared.types.FuncType.{FuncType}

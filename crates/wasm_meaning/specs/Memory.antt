@@ -1,11 +1,11 @@
 -- Memory operators (WebAssembly Core 1.0, section 4.4.4). An effective address is the operand plus the offset, and does not wrap.
-use Rattle.std.specs.Prelude.{ℕ, ◌+◌, ◌-◌, ◌*◌, ◌^◌, Bool, if◌then◌else◌, List, Option, Some, None}
+use Rattle.std.specs.Prelude.{ℕ, ◌+◌, ◌-◌, ◌*◌, ◌^◌, if◌then◌else◌, List, Option, Some, None}
 use Rattle.wasm_ops.specs.Values.{bits_of}
 use Rattle.wasm_ops.specs.declared.traps.Trap.TheVariants.{OutOfBounds}
 use Rattle.wasm_ops.specs.declared.types.Access.{Access}
 use Rattle.wasm_meaning.specs.Bytes.{loaded, stored, size_of, grown, sign_extended}
 use Rattle.wasm_meaning.specs.Effects.{Effect, Goes, Traps, Breaks, Taken, take_off, take_i32}
-use Rattle.wasm_meaning.specs.State.{Instance, State, push, with_operands, with_memory}
+use Rattle.wasm_meaning.specs.State.{State, push, with_operands, with_memory}
 use Rattle.wasm_meaning.specs.Values.{Int32, value_of}
 
 -- the number that so few bytes stand for, as a value of its type

@@ -1,5 +1,5 @@
 -- Numeric operators (WebAssembly Core 1.0, section 4.4.1).
-use Rattle.std.specs.Prelude.{ℕ, Bool, true, false, List, Option, Some, None, Result, Ok, Err}
+use Rattle.std.specs.Prelude.{ℕ, Bool, true, false, Option, Some, None, Result, Ok, Err}
 use Rattle.wasm_ops.specs.Arithmetic.{one_operand, two_operands}
 use Rattle.wasm_ops.specs.Operations.{operand_of, result_of, takes_one}
 use Rattle.wasm_ops.specs.declared.operations.Operation.{Operation}

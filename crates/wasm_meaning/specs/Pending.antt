@@ -3,7 +3,7 @@ use Rattle.std.specs.Prelude.{ℕ, List, [], ◌∷◌, Option, Some, None, slic
 use Rattle.wasm_ops.specs.Sequence.{Sequence, Done, InLoop}
 use Rattle.wasm_ops.specs.declared.types.ValType.{ValType}
 use Rattle.wasm_meaning.specs.Execution.{Caller, close_block, close_loop, close_call, call, walk, exec}
-use Rattle.wasm_meaning.specs.State.{Function, Instance, State, Outcome, Fell, Branched, Returned, Trapped, Exited, Spent, Stuck, Run, Go, Runner, Next, ends, after}
+use Rattle.wasm_meaning.specs.State.{Function, Instance, State, Fell, Branched, Returned, Trapped, Exited, Spent, Stuck, Run, Go, Runner, Next, ends, after}
 use Rattle.wasm_meaning.specs.Values.{Value}
 
 -- what a pending sequence is the rest of, from the inside outwards: behind a block, a loop or a call, whose sequence went on with `rest`;

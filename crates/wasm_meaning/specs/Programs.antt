@@ -20,7 +20,7 @@ use Rattle.wasm_meaning.specs.Pending.{Pending, entering}
 use Rattle.wasm_meaning.specs.State.{Function, Instance, Store, State}
 use Rattle.wasm_meaning.specs.Typing.{nested_body, height_of, nest_of}
 use Rattle.wasm_meaning.specs.Validity.{module_walk}
-use Rattle.wasm_meaning.specs.ValiditySpaces.{count_imported, as_function}
+use Rattle.wasm_meaning.specs.ValiditySpaces.{count_imported}
 use Rattle.wasm_meaning.specs.Values.{Value, value_of}
 
 -- a program: the module that was linked, and the pages that it was given

@@ -1,7 +1,6 @@
 -- What a request to a program gives: its verdict, the prices that it pays, and its units. They are this project's own.
-use Rattle.std.specs.Prelude.{ℕ, ◌≡◌, ◌≢◌, List, sum, Option, Some, None}
+use Rattle.std.specs.Prelude.{ℕ, List, sum, Option, Some, None}
 use Rattle.wasm_ops.specs.declared.traps.Trap.{Trap as Cause}
-use Rattle.wasm_meaning.specs.HostCalls.{Streams}
 use Rattle.wasm_meaning.specs.Pending.{onward}
 use Rattle.wasm_meaning.specs.Programs.{Program, instance_of, first}
 use Rattle.wasm_meaning.specs.State.{Outcome, Fell, Branched, Returned, Trapped, Exited, Spent, Stuck, Run}

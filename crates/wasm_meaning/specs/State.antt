@@ -1,12 +1,12 @@
 -- What there is while a program runs: the instance that stays the same, and the state that changes (WebAssembly Core 1.0, sections 4.2.3 to 4.2.12).
-use Rattle.std.specs.Prelude.{ℕ, ◌+◌, List, [], ◌∷◌, ◌++◌, length, map, Option, Some, None}
+use Rattle.std.specs.Prelude.{ℕ, List, [], ◌∷◌, ◌++◌, Option}
 use Rattle.wasm_ops.specs.Sequence.{Sequence}
 use Rattle.wasm_ops.specs.declared.host_calls.HostName.{HostName}
 use Rattle.wasm_ops.specs.declared.traps.Trap.{Trap}
 use Rattle.wasm_ops.specs.declared.types.FuncType.{FuncType}
 use Rattle.wasm_ops.specs.declared.types.ValType.{ValType}
 use Rattle.wasm_meaning.specs.HostCalls.{Streams}
-use Rattle.wasm_meaning.specs.Values.{Value, zero_of}
+use Rattle.wasm_meaning.specs.Values.{Value}
 
 -- The instance.
 

@@ -11,8 +11,10 @@ mod RequestExamples
 mod TypingExamples
 mod ValidityExamples
 mod VariableExamples
+mod WholeProgram
 pub mod Budgets
 pub mod Fits
+pub mod HostLaws
 pub mod MemoryLaws
 pub mod ModuleFacts
 pub mod Ready

@@ -6,7 +6,7 @@ use Rattle.std.proofs.lemmas.Nat.{mod-pow-add}
 use Rattle.wasm_meaning.specs.Bytes.{number_of_bytes, bytes_of, lies_in, bytes_at, with_bytes, loaded, stored}
 use Rattle.wasm_meaning.specs.Laws.{Stores}
 
-length-bytes_of : (width n : ℕ) → length (bytes_of width n) ≡ width
+pub length-bytes_of : (width n : ℕ) → length (bytes_of width n) ≡ width
 length-bytes_of zero n = refl
 length-bytes_of (suc width) n = ap suc (length-bytes_of width (n / 256))
 
@@ -35,7 +35,7 @@ module _ (memory : List ℕ) (at : ℕ) (bytes : List ℕ) (fits : at + length b
       ∙ ap (λ (xs : List ℕ). drop (length bytes) xs) behind-with_bytes
       ∙ drop_at bytes (drop (at + length bytes) memory) (length bytes) refl
 
-  length-with_bytes : length (with_bytes memory at bytes) ≡ length memory
+  pub length-with_bytes : length (with_bytes memory at bytes) ≡ length memory
   length-with_bytes = omega (
     arith,
     length-append (take at memory) (bytes ++ drop (at + length bytes) memory),
@@ -45,13 +45,13 @@ module _ (memory : List ℕ) (at : ℕ) (bytes : List ℕ) (fits : at + length b
     fits,
   )
 
-lies : (memory : List ℕ) (at count : ℕ) → lies_in memory at count ≡ true → at + count ≤ length memory
+pub lies : (memory : List ℕ) (at count : ℕ) → lies_in memory at count ≡ true → at + count ≤ length memory
 lies memory at count e = grind (arith, nat_tests)
 
 lies_not : (memory : List ℕ) (at count : ℕ) → lies_in memory at count ≡ false → length memory < at + count
 lies_not memory at count e = grind (arith, nat_tests)
 
-does_lie : (memory : List ℕ) (at count : ℕ) → at + count ≤ length memory → lies_in memory at count ≡ true
+pub does_lie : (memory : List ℕ) (at count : ℕ) → at + count ≤ length memory → lies_in memory at count ≡ true
 does_lie memory at count e = grind (arith, nat_tests)
 
 loaded_behind : (after : List ℕ) (at width n : ℕ) → at + width ≤ length after → bytes_at after at width ≡ bytes_of width n → loaded after at width ≡ Some (n % 2 ^ (8 * width))

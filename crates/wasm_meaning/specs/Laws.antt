@@ -1,6 +1,7 @@
 -- What the laws speak of.
-use Rattle.std.specs.Prelude.{ℕ, ◌≡◌, ◌+◌, ◌*◌, ◌%◌, ◌^◌, List, length, take, drop, sum, Some}
+use Rattle.std.specs.Prelude.{ℕ, ◌≡◌, ◌≤◌, ◌+◌, ◌*◌, ◌%◌, ◌^◌, List, length, take, drop, sum, Some}
 use Rattle.wasm_meaning.specs.Bytes.{bytes_of, bytes_at, loaded}
+use Rattle.wasm_meaning.specs.HostCalls.{Streams, HostEffect, most_reply_bytes}
 use Rattle.wasm_meaning.specs.Requests.{Request}
 use Rattle.wasm_meaning.specs.State.{Run}
 
@@ -23,3 +24,11 @@ pub record Stores (memory : List ℕ) (at width n : ℕ) (after : List ℕ) : Ty
   pub behind_stays : drop (at + width) after ≡ drop (at + width) memory
   pub bytes_are : bytes_at after at width ≡ bytes_of width n
   pub loads_again : loaded after at width ≡ Some (n % 2 ^ (8 * width))
+
+-- what a call of the host keeps: the memory's length, and of the streams the body, a position within it, and a reply that has room
+pub record KeepsHost (memory : List ℕ) (streams : Streams) (after : HostEffect) : Type 0 where
+  pub least : 1 ≤ after.price
+  pub same_length : length after.memory ≡ length memory
+  pub same_body : after.streams.body ≡ streams.body
+  pub within_body : streams.position ≤ length streams.body → after.streams.position ≤ length streams.body
+  pub reply_room : length streams.reply ≤ most_reply_bytes → length after.streams.reply ≤ most_reply_bytes

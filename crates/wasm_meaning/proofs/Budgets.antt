@@ -14,7 +14,7 @@ not_below n m e = grind (arith, nat_tests)
 is_below : (n m : ℕ) → nat_lt n m ≡ true → n < m
 is_below n m e = grind (arith, nat_tests)
 
-not_short : (n m : ℕ) → m ≤ n → nat_lt n m ≡ false
+pub not_short : (n m : ℕ) → m ≤ n → nat_lt n m ≡ false
 not_short n m e = grind (arith, nat_tests)
 
 -- Prices and what is left make the budget.

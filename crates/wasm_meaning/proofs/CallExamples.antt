@@ -44,14 +44,14 @@ no_such_function = refl
 -- Frames and cells.
 
 -- a function that calls itself as often as its argument says
-abbrev counting : Sequence
+abbrev pub counting : Sequence
 counting = Plain (LocalGet 0) (InIf None (Plain (LocalGet 0) (Plain (ConstI32 1) (Plain (Binary 0x6B) (Plain (Call 1) Done)))) Done)
 
-abbrev deep : ℕ → Instance
+abbrev pub deep : ℕ → Instance
 deep n = functions (bare_function (Plain (ConstI32 n) (Plain (Call 1) Done)) ∷ function (I32 ∷ []) [] None [] counting ∷ [])
 
 -- where so many frames are live, with so many cells
-abbrev where_live : (frames cells : ℕ) → State
+abbrev pub where_live : (frames cells : ℕ) → State
 where_live frames cells = record (idle no_store) { frames = frames; cells = cells }
 
 -- each depth but the last costs six units

@@ -1,6 +1,7 @@
 mod BudgetExamples
 mod CallExamples
 mod ControlExamples
+mod DeepCalls
 mod Examples
 mod HostExamples
 mod LinkingExamples

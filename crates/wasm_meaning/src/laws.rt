@@ -1,7 +1,9 @@
 //! Laws of the definitions. Each function does nothing: its contract is the law.
 ghost use Rattle.std.specs.Prelude.{◌≡◌, ◌≢◌, ◌↔◌, ℕ, ◌+◌, ◌≤◌, ◌<◌, List, [], length, Some, None};
 ghost use Rattle.wasm_meaning.specs.Bytes.{stored};
-ghost use Rattle.wasm_meaning.specs.Laws.{Balances, Stores, richer, with_more};
+ghost use Rattle.wasm_ops.specs.declared.host_calls.HostName.{HostName};
+ghost use Rattle.wasm_meaning.specs.HostCalls.{Streams, host_effect};
+ghost use Rattle.wasm_meaning.specs.Laws.{Balances, KeepsHost, Stores, richer, with_more};
 ghost use Rattle.wasm_meaning.specs.Pending.{Pending, onward};
 ghost use Rattle.wasm_meaning.specs.Programs.{IsProgram};
 ghost use Rattle.wasm_meaning.specs.Requests.{Request, Verdict, BudgetSpent, prices, run_of, units, verdict};
@@ -12,6 +14,11 @@ ghost use Rattle.wasm_meaning.specs.Turns.{AreShortest, groups, joined, turns};
 pub fn stores_change_their_bytes()
     ensures stores { (memory : List ℕ) (at width n : ℕ) (after : List ℕ) → stored memory at width n ≡ Some after → Stores memory at width n after }
     ensures refused { (memory : List ℕ) (at width n : ℕ) → (stored memory at width n ≡ None) ↔ (length memory < at + width) }
+{}
+
+/// Each call of the host costs at least 1, and keeps the memory's length, the request's body, a position within it, and a reply that has room.
+pub fn host_calls_keep_their_bounds()
+    ensures keeps { (name : HostName) (arguments memory : List ℕ) (streams : Streams) → KeepsHost memory streams (host_effect name arguments memory streams) }
 {}
 
 /// Of whatever is pending: the prices and what is left make the budget; a greater bound than what is left changes nothing; and a run that was not spent is the same with more budget.

@@ -1,12 +1,13 @@
 -- A recursion of 4,096 frames, which is too long to be computed: each depth of it is followed by the one below.
-use Rattle.std.proofs.Common.{◌≡◌, ◌⊎◌, ℕ, zero, suc, ◌+◌, ◌-◌, ◌*◌, ◌%◌, ◌^◌, ◌<◌, ◌≤◌, ◌==◌, Bool, true, false, ◌&&◌, nat_lt, nat_le, List, [], ◌∷◌, ◌++◌, sum, Some, None, refl, sym, ap, subst, ◌∙◌, arith}
+use Rattle.std.proofs.Common.{◌≡◌, ℕ, zero, suc, ◌+◌, ◌-◌, ◌*◌, ◌%◌, ◌^◌, ◌<◌, ◌≤◌, ◌==◌, Bool, true, false, ◌&&◌, nat_lt, nat_le, List, [], ◌∷◌, ◌++◌, sum, Some, None, refl, ap, ◌∙◌, arith}
 use Rattle.std.proofs.lemmas.Bool.Decides.{nat_tests}
-use Rattle.wasm_ops.specs.Sequence.{Sequence, Done, Plain, InIf}
+use Rattle.wasm_ops.specs.Sequence.{Sequence, Done, Plain}
 use Rattle.wasm_ops.specs.declared.operators.Op.TheVariants.{Call, LocalGet, ConstI32, Binary}
+use Rattle.wasm_ops.specs.declared.traps.Trap.TheVariants.{StackExhausted}
 use Rattle.wasm_ops.specs.declared.types.ValType.TheVariants.{I32}
-use Rattle.wasm_meaning.specs.Execution.{pay_if, pay, call, call_within, close_block, close_call, caller_of, choose, choose_by, entered, has_room, in_block, walk, exec}
-use Rattle.wasm_meaning.specs.State.{Function, Instance, State, Fell, Run, Go, Runner, ends, paid, after, push, with_operands}
-use Rattle.wasm_meaning.specs.Values.{Value, Int32}
+use Rattle.wasm_meaning.specs.Execution.{pay_if, pay, call, call_within, close_block, close_call, caller_of, choose, choose_by, has_room, in_block, walk, exec}
+use Rattle.wasm_meaning.specs.State.{Function, State, Fell, Trapped, Run, Go, Runner, ends, paid, after, push}
+use Rattle.wasm_meaning.specs.Values.{Int32}
 use Rattle.wasm_meaning.specs.Pending.{Pending, entering, onward}
 use Rattle.wasm_meaning.proofs.Budgets.{not_short, onward_agrees, onward_balances}
 use Rattle.wasm_meaning.proofs.CallExamples.{counting, deep}
@@ -62,6 +63,7 @@ module _ (k : ℕ) (again : Runner) where
     where
       else_way : Go
       else_way = walk (deep k) again Done
+
       then_way : Go
       then_way = in_block None (walk (deep k) again inner) else_way
 
@@ -95,7 +97,7 @@ leaves
 leaves n st next prices l l' same = record {
   prices = prices ++ [];
   is = ap (λ (frames : ℕ). paid (prices ++ []) (next (record st { frames = frames }) l)) (back st.frames)
-    ∙ ap (λ (m : ℕ). paid (prices ++ []) (next st m)) same;
+      ∙ ap (λ (m : ℕ). paid (prices ++ []) (next st m)) same;
 }
   where
     back : (frames : ℕ) → frames + 1 - 1 ≡ frames
@@ -115,8 +117,8 @@ called k n again st next left prices l l' frames cells same body =
     record {
       prices = c.prices;
       is = ap (λ (b : Bool). call_within b (record { arguments = Int32 n ∷ []; under = st.operands }) again self next (push (Int32 n) st) left) (in_room (push (Int32 n) st) frames cells)
-        ∙ ap (λ (r : Run). after r (close_call None (caller_of (push (Int32 n) st) st.operands) next)) body
-        ∙ c.is;
+          ∙ ap (λ (r : Run). after r (close_call None (caller_of (push (Int32 n) st) st.operands) next)) body
+          ∙ c.is;
     }
 
 comes
@@ -191,3 +193,73 @@ recursion_costs n bound left few enough fits =
 -- 4,096 frames: the first function and 4,095 calls of the other one
 all_frames : (bound left : ℕ) → 24568 ≤ left → left ≤ bound → Costs (onward (deep 4094) bound from_idle left) 24568
 all_frames bound left enough fits = recursion_costs 4094 bound left (omega arith) enough fits
+
+-- One call deeper.
+
+record TrapsAt (r : Run) (left : ℕ) : Type 0 where
+  prices : List ℕ
+  state : State
+  is : r ≡ paid prices (ends (Trapped StackExhausted) state left)
+
+-- so much more than the depth
+abbrev plus : ℕ → ℕ → ℕ
+plus zero more = more
+plus (suc depth) more = suc (plus depth more)
+
+no_room : (st : State) → st.frames ≡ 4096 → has_room st self ≡ false
+no_room st frames =
+    let first : nat_lt st.frames 4096 ≡ false = grind (arith, nat_tests) in
+    ap (λ (b : Bool). b && nat_le (st.cells + 4) 65536) first
+
+same_end : (r : Run) (prices : List ℕ) (state : State) (l l' : ℕ) → l ≡ l' → r ≡ paid prices (ends (Trapped StackExhausted) state l) → TrapsAt r l'
+same_end r prices state l l' same e =
+    record { prices = prices; state = state; is = e ∙ ap (λ (m : ℕ). paid prices (ends (Trapped StackExhausted) state m)) same }
+
+traps
+    : (k more depth b : ℕ) (st : State) (next : Go) (left : ℕ) → plus depth more < 2 ^ 32 → 6 * depth ≤ left → st.frames + depth ≡ 4096
+    → st.cells + (4 * depth + 4) ≤ 65536
+    → TrapsAt (call (exec (deep k) (deeper depth b)) self next (push (Int32 (plus depth more)) st) left) (left - 6 * depth)
+traps k more zero b st next left small enough frames cells =
+    same_end (call (exec (deep k) (suc b)) self next (push (Int32 more) st) left) [] (push (Int32 more) st) left (left - 6 * 0) (omega arith)
+    (ap (λ (room : Bool). call_within room (record { arguments = Int32 more ∷ []; under = st.operands }) (exec (deep k) (suc b)) self next (push (Int32 more) st) left)
+    (no_room (push (Int32 more) st) (omega (arith, frames))))
+traps k more (suc depth) b st next left small enough frames cells =
+    let again = exec (deep k) (deeper depth b) in
+    let n = plus depth more in
+    let below = in_call st (suc n) in
+    let l = left - 1 - 1 - 1 - 1 - 1 - 1 in
+    let c = traps k more depth b below (walk (deep k) again Done) l (omega (arith, small)) (omega (arith, enough)) (omega (arith, frames)) (omega (arith, cells)) in
+    let body =
+    one_body k again n st left (omega (arith, enough))
+    ∙ ap (λ (r : Run). paid (1 ∷ 1 ∷ []) (after r (close_block None [] (walk (deep k) again Done)))) (up_to_call k again n st (left - 1 - 1) (omega (arith, enough)) small)
+    ∙ ap (λ (r : Run). paid (1 ∷ 1 ∷ []) (after (paid (1 ∷ 1 ∷ 1 ∷ 1 ∷ []) r) (close_block None [] (walk (deep k) again Done)))) c.is in
+    same_end (call (exec (deep k) (suc (deeper depth b))) self next (push (Int32 (suc n)) st) left) (1 ∷ 1 ∷ 1 ∷ 1 ∷ 1 ∷ 1 ∷ ((c.prices ++ []) ++ [])) c.state (l - 6 * depth) (left - 6 * suc depth) (omega arith)
+    (ap (λ (room : Bool). call_within room (record { arguments = Int32 (suc n) ∷ []; under = st.operands }) (exec (deep k) (suc (deeper depth b))) self next (push (Int32 (suc n)) st) left)
+    (in_room (push (Int32 (suc n)) st) (omega (arith, frames)) (omega (arith, cells)))
+    ∙ ap (λ (r : Run). after r (close_call None (caller_of (push (Int32 (suc n)) st) st.operands) next)) body)
+
+record Overflows (r : Run) (units : ℕ) : Type 0 where
+  traps_so : r.outcome ≡ Trapped StackExhausted
+  cost : sum r.prices ≡ units
+
+-- the first function and 4,095 calls of the other one, of which the last calls once more
+one_frame_more
+    : (more bound left : ℕ) → plus 4095 more < 2 ^ 32 → 24572 ≤ left → left ≤ bound → Overflows (onward (deep (plus 4095 more)) bound from_idle left) 24572
+one_frame_more more bound left small enough fits =
+    overflow_costs 4095 more bound left refl small enough fits
+  where
+    overflow_costs
+        : (depth more bound left : ℕ) → depth ≡ 4095 → plus depth more < 2 ^ 32 → 24572 ≤ left → left ≤ bound
+        → Overflows (onward (deep (plus depth more)) bound from_idle left) 24572
+    overflow_costs depth more bound left is small enough fits =
+        let n = plus depth more in
+        let again = exec (deep n) (deeper depth left) in
+        let next = walk (deep n) (exec (deep n) (suc (deeper depth left))) Done in
+        let c = traps n more depth left in_first (walk (deep n) again Done) (left - 1 - 1) small (omega (arith, is, enough)) (omega (arith, is)) (omega (arith, is)) in
+        let body = begins n again left (omega (arith, enough)) ∙ ap (λ (r : Run). paid (1 ∷ 1 ∷ []) r) c.is in
+        let whole = ap (λ (r : Run). after r (close_call None (caller_of (idle no_store) []) next)) body in
+        let deep_enough = deeper_more depth left in
+        let same = onward_agrees (deep n) from_idle left bound (suc (deeper depth left)) fits (omega (arith, deep_enough)) in
+        let balance = (onward_balances (deep n) bound from_idle left).sum_is in
+        let rest = ap (λ (r : Run). r.left) same ∙ ap (λ (r : Run). r.left) whole in
+        record { traps_so = ap (λ (r : Run). r.outcome) same ∙ ap (λ (r : Run). r.outcome) whole; cost = omega (arith, balance, rest, enough, is) }

@@ -1,13 +1,13 @@
 -- What each call of the host keeps: the memory's length, the request's body, and the room of the reply; and that each costs something.
-use Rattle.std.proofs.Common.{◌≡◌, ℕ, zero, suc, ◌+◌, ◌-◌, ◌*◌, ◌/◌, ◌^◌, ◌≤◌, ◌<◌, ◌==◌, Bool, true, false, cond, not, ◌&&◌, nat_lt, nat_le, min, List, [], ◌∷◌, ◌++◌, length, take, drop, map, flat_map, sum, Option, Some, None, refl, sym, ap, subst, ◌∙◌, arith, length-append, length-take, length-drop}
+use Rattle.std.proofs.Common.{◌≡◌, ℕ, ◌+◌, ◌*◌, ◌^◌, ◌≤◌, ◌==◌, Bool, true, false, cond, not, ◌&&◌, nat_lt, nat_le, List, [], ◌∷◌, ◌++◌, length, take, drop, map, Option, Some, None, refl, sym, ap, subst, ◌∙◌, arith, length-append, length-take, length-drop}
 use Rattle.std.proofs.lemmas.Bool.Decides.{nat_tests}
 use Rattle.std.proofs.lemmas.List.Sums.{sum_by-cons}
 use Rattle.wasm_ops.specs.declared.host_calls.HostName.{HostName}
 use Rattle.wasm_ops.specs.declared.host_calls.HostName.TheVariants.{FdRead, FdWrite, ProcExit}
 use Rattle.wasm_meaning.specs.Bytes.{bytes_of, lies_in, bytes_at, with_bytes}
-use Rattle.wasm_meaning.specs.HostCalls.{Streams, HostEffect, Buffer, buffer_bytes, all_lie_in, room_of, gathered, scattered, most_buffers, most_reply_bytes, Transfer, transfer_of, listed, reaches, reads_from, writes_to, overflows, read_error, write_error, invalid_argument, bad_file_descriptor, fault, too_large, moved, next_bytes, read, written, write, host_effect}
+use Rattle.wasm_meaning.specs.HostCalls.{Streams, HostEffect, Buffer, buffer_bytes, all_lie_in, room_of, gathered, scattered, most_buffers, most_reply_bytes, Transfer, transfer_of, listed, reaches, reads_from, writes_to, overflows, read_error, write_error, invalid_argument, bad_file_descriptor, fault, too_large, next_bytes, read, written, write, host_effect}
 use Rattle.wasm_meaning.specs.Laws.{KeepsHost}
-use Rattle.wasm_meaning.proofs.MemoryLaws.{length-bytes_of, length-with_bytes, lies, does_lie}
+use Rattle.wasm_meaning.proofs.MemoryLaws.{length-bytes_of, length-with_bytes, lies}
 use Rattle.wasm_meaning.proofs.ModuleFacts.{and_both, not_false}
 
 -- A check that passed.
@@ -94,7 +94,7 @@ read_keeps None memory call streams reached =
       same_length = counted_length (scattered memory (listed memory call) bytes) call.place (length bytes) (omega (arith, place, laid)) ∙ laid;
       same_body = refl;
       within_body = λ within.
-        omega (arith, within, length-take (room_of (listed memory call)) (drop streams.position streams.body), length-drop streams.position streams.body);
+          omega (arith, within, length-take (room_of (listed memory call)) (drop streams.position streams.body), length-drop streams.position streams.body);
       reply_room = λ room. room;
     }
 
@@ -141,8 +141,8 @@ write_keeps None memory call streams reached has_room =
       same_body = same.0;
       within_body = λ within. subst (λ (n : ℕ). n ≤ length streams.body) (sym same.1) within;
       reply_room = λ room.
-        written_keeps (call.descriptor == 1) streams.reply bytes streams refl
-        (reply_fits streams.reply call.descriptor (room_of (listed memory call)) (length bytes) (has_room refl) few) room;
+          written_keeps (call.descriptor == 1) streams.reply bytes streams refl
+          (reply_fits streams.reply call.descriptor (room_of (listed memory call)) (length bytes) (has_room refl) few) room;
     }
 
 pub host_keeps : (name : HostName) (arguments memory : List ℕ) (streams : Streams) → KeepsHost memory streams (host_effect name arguments memory streams)

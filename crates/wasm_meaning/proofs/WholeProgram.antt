@@ -1,12 +1,10 @@
 -- A module of one function that does nothing is a program: what the laws ask of programs can be met.
-use Rattle.std.proofs.Common.{◌≡◌, ℕ, [], ◌∷◌, Some, None, Ok, refl, arith}
+use Rattle.std.proofs.Common.{[], refl, arith}
 use Rattle.wasm_ops.specs.Sequence.{Done}
-use Rattle.wasm_ops.specs.WellFormed.{IsWellFormed, IsWellFormedBody, HasItems, IsWithinLimits}
-use Rattle.wasm_ops.specs.declared.modules.Body.{Body}
-use Rattle.wasm_ops.specs.declared.modules.Module.{Module}
+use Rattle.wasm_ops.specs.WellFormed.{IsWellFormed, IsWellFormedBody}
 use Rattle.wasm_meaning.proofs.Modules.{alone, body_of}
 use Rattle.wasm_meaning.specs.Linking.{link_refusal}
-use Rattle.wasm_meaning.specs.Programs.{Program, IsProgram}
+use Rattle.wasm_meaning.specs.Programs.{IsProgram}
 use Rattle.wasm_meaning.specs.Validity.{module_walk, outside_walk, bodies_walk, imports_walk, functions_walk, tables_walk, memories_walk, globals_walk, exports_walk, start_walk, elements_walk, segments_walk}
 
 body_formed : IsWellFormedBody (body_of [] Done)

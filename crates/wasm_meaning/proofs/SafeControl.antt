@@ -15,13 +15,13 @@ use Rattle.wasm_ops.specs.declared.types.ValType.{ValType}
 use Rattle.wasm_ops.specs.declared.types.ValType.TheVariants.{I32, I64}
 use Rattle.wasm_meaning.specs.declared.violations.Rule.TheVariants.{UnknownIndex, LabelDepth, BranchTypes}
 use Rattle.wasm_meaning.specs.declared.violations.Violation.{Violation}
-use Rattle.wasm_meaning.specs.Control.{branch_if as branches_if, branch_if_on, branch_if_of, branch_to, entry, branch_table as branches_by_table, branch_table_on, Callee, Host, Defined, callee_at, type_of_callee, Arguments, take_arguments, asks, calls, call_effect, same_type as types_match, same_types, same_results, same_function_type, calls_if, calls_found, calls_element, call_indirect_on, call_indirect_effect}
+use Rattle.wasm_meaning.specs.Control.{branch_if as branches_if, branch_if_on, branch_if_of, branch_to, entry, branch_table as branches_by_table, branch_table_on, Callee, Host, Defined, callee_at, type_of_callee, Arguments, take_arguments, asks, calls, call_effect, same_types, same_results, same_function_type, calls_if, calls_found, calls_element, call_indirect_on, call_indirect_effect}
 use Rattle.wasm_meaning.specs.Effects.{Branches, Taken}
 use Rattle.wasm_meaning.specs.HostCalls.{host_type}
 use Rattle.wasm_meaning.specs.Operators.{effect}
 use Rattle.wasm_meaning.specs.State.{Instance, State, with_operands}
 use Rattle.wasm_meaning.specs.Typing.{Context, with_table, with_memory as has_memory, call, call_indirect, set_global, same_result, is_label, takes, agrees, branch_table, plain}
-use Rattle.wasm_meaning.specs.TypingOperands.{Walk, known, holds, take_off, take_result, take_all, lay_result, cut, gives, unary, branch, keep_result, branch_if}
+use Rattle.wasm_meaning.specs.TypingOperands.{same_type, Walk, known, holds, take_off, take_result, take_all, lay_result, cut, gives, unary, branch, keep_result, branch_if}
 use Rattle.wasm_meaning.specs.ValidityChecks.{go_on}
 use Rattle.wasm_meaning.specs.ValiditySpaces.{function_type, globals}
 use Rattle.wasm_meaning.specs.Values.{Value, Int32, number_in}
@@ -55,23 +55,17 @@ takes_due due (Some t) e = ap (λ (x : Option ValType). Some x) (sym (same_resul
 
 -- Types of functions that are the same.
 
-match_equal : (t u : ValType) → types_match t u ≡ true → t ≡ u
-match_equal I32 I32 e = refl
-match_equal I64 I64 e = refl
-match_equal I32 I64 e = let bad : ⊥ = cc in absurd bad
-match_equal I64 I32 e = let bad : ⊥ = cc in absurd bad
-
 lists_equal : (ts us : List ValType) → same_types ts us ≡ true → ts ≡ us
 lists_equal [] [] e = refl
 lists_equal [] (u ∷ us) e = let bad : ⊥ = cc in absurd bad
 lists_equal (t ∷ ts) [] e = let bad : ⊥ = cc in absurd bad
 lists_equal (t ∷ ts) (u ∷ us) e =
-    let both = both_true (types_match t u) (same_types ts us) e in
-    ap (λ (x : ValType). x ∷ ts) (match_equal t u both.0) ∙ ap (λ (xs : List ValType). u ∷ xs) (lists_equal ts us both.1)
+    let both = both_true (same_type t u) (same_types ts us) e in
+    ap (λ (x : ValType). x ∷ ts) (same_types_equal t u both.0) ∙ ap (λ (xs : List ValType). u ∷ xs) (lists_equal ts us both.1)
 
 outcomes_equal : (t u : Option ValType) → same_results t u ≡ true → t ≡ u
 outcomes_equal None None e = refl
-outcomes_equal (Some t) (Some u) e = ap (λ (x : ValType). Some x) (match_equal t u e)
+outcomes_equal (Some t) (Some u) e = ap (λ (x : ValType). Some x) (same_types_equal t u e)
 outcomes_equal None (Some u) e = let bad : ⊥ = cc in absurd bad
 outcomes_equal (Some t) None e = let bad : ⊥ = cc in absurd bad
 

@@ -1,13 +1,13 @@
--- Control operators that hold no sequence (WebAssembly Core 1.0, section 4.4.5); which function a call means, and its arguments (sections 4.4.7 and 4.2.3).
+-- Control operators that hold no sequence (WebAssembly Core 1.0, section 4.4.5); which function a call means, and its arguments (sections 4.4.7 and 4.2.5).
 use Rattle.std.specs.Prelude.{ℕ, ◌+◌, ◌-◌, ◌==◌, nat_lt, Bool, true, false, ◌&&◌, if◌then◌else◌, List, [], ◌∷◌, length, reverse, Option, Some, None, slice_get}
 use Rattle.wasm_ops.specs.declared.host_calls.HostName.{HostName}
 use Rattle.wasm_ops.specs.declared.traps.Trap.TheVariants.{UndefinedElement, UninitializedElement, TypeMismatch}
 use Rattle.wasm_ops.specs.declared.types.FuncType.{FuncType}
 use Rattle.wasm_ops.specs.declared.types.ValType.{ValType}
-use Rattle.wasm_ops.specs.declared.types.ValType.TheVariants.{I32, I64}
 use Rattle.wasm_meaning.specs.Effects.{Effect, Goes, Branches, Calls, Asks, Traps, Breaks, Taken, take_i32}
 use Rattle.wasm_meaning.specs.HostCalls.{host_type, host_effect}
 use Rattle.wasm_meaning.specs.State.{Function, Instance, State, with_operands}
+use Rattle.wasm_meaning.specs.TypingOperands.{same_type}
 use Rattle.wasm_meaning.specs.Values.{Value, has_type, numbers}
 
 -- Branches.
@@ -100,12 +100,6 @@ calls (Some (Defined function)) st = Calls function st
 -- call
 abbrev pub call_effect : Instance → (index : ℕ) → State → Effect
 call_effect inst index st = calls (callee_at inst index) st
-
-abbrev pub same_type : ValType → ValType → Bool
-same_type I32 I32 = true
-same_type I64 I64 = true
-same_type I32 I64 = false
-same_type I64 I32 = false
 
 abbrev pub same_types : List ValType → List ValType → Bool
 same_types [] [] = true

@@ -1,4 +1,4 @@
--- Whether a module is linked to the host, and what refuses it first (WebAssembly Core 1.0, section 4.5.4, and WASI preview1). That a program has limits of pages is this project's own.
+-- Whether a module is linked to the host, and what refuses it first (WebAssembly Core 1.0, sections 4.5.2 and 4.5.4, and WASI preview1). That a program has limits of pages is this project's own.
 use Rattle.std.specs.Prelude.{ℕ, ◌+◌, ◌*◌, ◌==◌, nat_lt, not, Bool, true, false, ◌&&◌, List, [], ◌∷◌, length, codes, bytes_eq, if◌then◌else◌, Option, Some, None, option_map, unwrap_or, slice_get}
 use Rattle.wasm_ops.specs.declared.host_calls.HostName.{HostName}
 use Rattle.wasm_ops.specs.declared.host_calls.HostName.TheVariants.{FdRead, FdWrite, ProcExit}

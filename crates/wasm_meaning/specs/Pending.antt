@@ -1,4 +1,4 @@
--- What is still to run in the middle of a program, and how it runs on (WebAssembly Core 1.0, sections 4.2.11 to 4.2.13 and 4.4.8).
+-- What is still to run in the middle of a program, and how it runs on (WebAssembly Core 1.0, sections 4.2.12, 4.2.13 and 4.5.5).
 use Rattle.std.specs.Prelude.{ℕ, List, [], ◌∷◌, Option, Some, None, slice_get}
 use Rattle.wasm_ops.specs.Sequence.{Sequence, Done, InLoop}
 use Rattle.wasm_ops.specs.declared.types.ValType.{ValType}

@@ -1,0 +1,9 @@
+//! Which modules are valid (WebAssembly Core 1.0, chapter 3 and appendix A.3).
+#![tactic(auto)]
+
+mod faults;
+mod frames;
+mod shapes;
+mod walker;
+
+pub use faults::ValidFault;

@@ -1,0 +1,2 @@
+mod IndexSteps
+mod LabelLaws

@@ -1,2 +1,4 @@
+pub mod Indexes
 pub mod Open
 pub mod Outcome
+pub mod Scopes

@@ -3,6 +3,9 @@
 
 mod faults;
 mod frames;
+mod indexes;
+mod labels;
+mod scopes;
 mod shapes;
 mod walker;
 

@@ -19,25 +19,25 @@ use wasm_ops::ValType;
 #[derive(Drop)]
 pub(crate) struct Walker {
     /// The types of all operands, the last one at the end. None is an operand of any type.
-    operands: Vec<Option<ValType>>,
+    pub(crate) operands: Vec<Option<ValType>>,
 
     /// The open blocks, the inmost at the end.
-    frames: Vec<Frame>,
+    pub(crate) frames: Vec<Frame>,
 
     /// How many operands lie under the block at hand.
-    base: usize,
+    pub(crate) base: usize,
 
     /// The operator is never reached.
-    loose: bool,
+    pub(crate) loose: bool,
 
     /// The place of the operator.
-    place: u32,
+    pub(crate) place: u32,
 
     /// The most operands so far.
-    most: usize,
+    pub(crate) most: usize,
 
     /// The most open blocks so far.
-    deepest: usize,
+    pub(crate) deepest: usize,
 }
 
 impl Model for Walker {

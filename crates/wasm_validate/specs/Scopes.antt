@@ -3,7 +3,7 @@ use Rattle.std.specs.Prelude.{List, [], ◌∷◌, ◌++◌, map, Option}
 use Rattle.wasm_ops.specs.declared.types.ValType.{ValType}
 use Rattle.wasm_meaning.specs.Typing.{Context, label_of}
 use Rattle.wasm_validate.specs.declared.scopes.Scope.{Scope}
-use Rattle.wasm_validate.specs.Open.{Block}
+use Rattle.wasm_validate.specs.Open.{Block, Open}
 
 -- outside of all blocks the function's own label is the one that there is
 abbrev pub context : Scope → Context
@@ -21,3 +21,7 @@ block_label b = label_of b.kind b.result
 -- the blocks have labels, the inmost first
 abbrev pub inside : Context → List Block → Context
 inside cx around = record cx { labels = map block_label around ++ cx.labels }
+
+-- what an operator's rule speaks of, where these blocks are open
+abbrev pub context_at : Scope → Open → Context
+context_at scope walk = inside (context scope) walk.blocks.around

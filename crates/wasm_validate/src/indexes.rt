@@ -1,6 +1,7 @@
 //! A module with its index spaces, in which imported items come first (WebAssembly Core 1.0, section 2.5.1).
 ghost use Rattle.std.specs.Prelude.{◌≡◌, ◌+◌, ◌≤◌, ◌<◌, ◌^◌, ◌++◌, length, map, is_some, slice_get, option_copied, option_to_list, IfOk, OnOk};
 ghost use Rattle.std.specs.List.{list_any};
+ghost use Rattle.wasm_meaning.specs.Typing.{has_any};
 ghost use Rattle.wasm_meaning.specs.ValiditySpaces.{as_function, as_table, as_memory, as_global, imported, count_imported, functions, tables, memories, globals, function_type, body_type, defined_global};
 
 use std::alloc::{AllocError, AllocFailed, Global};
@@ -202,6 +203,20 @@ impl Indexed {
         ensures { result ≡ length (memories self.now) }
     {
         self.memories
+    }
+
+    /// Whether there is a table.
+    pub(crate) fn has_table(&self) -> bool
+        ensures { result ≡ has_any (tables self.now) }
+    {
+        self.tables > 0
+    }
+
+    /// Whether there is a memory.
+    pub(crate) fn has_memory(&self) -> bool
+        ensures { result ≡ has_any (memories self.now) }
+    {
+        self.memories > 0
     }
 
     /// How many globals there are.

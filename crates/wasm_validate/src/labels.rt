@@ -2,7 +2,7 @@
 ghost use Rattle.std.specs.Prelude.{◌≡◌, ◌∷◌, [], ◌++◌, map, length, slice_get, IsTrue};
 ghost use Rattle.std.specs.List.{list_all};
 ghost use Rattle.wasm_meaning.specs.Typing.{label_of, same_result, is_label, agrees, takes};
-ghost use Rattle.wasm_validate.specs.Scopes.{context, inside, block_label};
+ghost use Rattle.wasm_validate.specs.Scopes.{context_at};
 
 use crate::frames::Frame;
 use crate::scopes::Scope;
@@ -35,7 +35,7 @@ pub(crate) fn same_result(one: Option<ValType>, other: Option<ValType>) -> bool
 impl Walker {
     /// What a branch to the label takes, if the label encloses the operator.
     pub(crate) fn label(&self, scope: &Scope<'_>, label: u32) -> Option<Option<ValType>>
-        ensures { result ≡ slice_get (inside (context scope.now) self.now.blocks.around).labels label }
+        ensures { result ≡ slice_get (context_at scope.now self.now).labels label }
     {
         let label = label as usize;
         let frames = self.frames.as_slice();
@@ -51,14 +51,14 @@ impl Walker {
 
     /// How many labels enclose the operator.
     fn label_count(&self, scope: &Scope<'_>) -> usize
-        ensures { result ≡ length (inside (context scope.now) self.now.blocks.around).labels }
+        ensures { result ≡ length (context_at scope.now self.now).labels }
     {
         self.frames.len() + 1
     }
 
     /// Whether all labels enclose the operator.
     pub(crate) fn are_labels(&self, scope: &Scope<'_>, labels: &[u32]) -> bool
-        ensures { result ≡ list_all (is_label (inside (context scope.now) self.now.blocks.around)) labels.now }
+        ensures { result ≡ list_all (is_label (context_at scope.now self.now)) labels.now }
     {
         let count = self.label_count(scope);
         labels.iter().all(|label| (*label as usize) < count)
@@ -71,7 +71,7 @@ impl Walker {
         due: Option<ValType>,
         labels: &[u32],
     ) -> bool
-        ensures { result ≡ list_all (agrees (inside (context scope.now) self.now.blocks.around) due) labels.now }
+        ensures { result ≡ list_all (agrees (context_at scope.now self.now) due) labels.now }
     {
         labels.iter().all(|label| match self.label(scope, *label) {
             Some(found) => same_result(due, found),

@@ -5,8 +5,10 @@ mod faults;
 mod frames;
 mod indexes;
 mod labels;
+mod operators;
 mod scopes;
 mod shapes;
+mod tables;
 mod walker;
 
 pub use faults::ValidFault;

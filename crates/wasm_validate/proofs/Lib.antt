@@ -1,2 +1,3 @@
 mod IndexSteps
 mod LabelLaws
+mod StackLaws

@@ -2,3 +2,4 @@ pub mod Indexes
 pub mod Open
 pub mod Outcome
 pub mod Scopes
+pub mod Steps

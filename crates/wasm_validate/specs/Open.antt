@@ -39,6 +39,13 @@ blocks_of (f ∷ frames) beneath =
     record { kind = f.kind; result = f.result; under = f.base; types = own f.base beneath; loose = f.loose }
     ∷ blocks_of frames (take f.base beneath)
 
+-- all of it, from the two stacks
+abbrev pub seen : (operands : List Operand) (frames : List Frame) (base : ℕ) (loose : Bool) (place most deepest : ℕ) → Open
+seen operands frames base loose place most deepest = record {
+  now = record { place = place; under = base; types = own base operands; loose = loose; most = most };
+  blocks = record { around = blocks_of (reverse frames) (take base operands); deepest = deepest };
+}
+
 -- the block around each block has no more operands under it
 abbrev pub AreStacked : (base : ℕ) → List Frame → Type 0
 AreStacked base [] = Unit {0}

@@ -1,6 +1,7 @@
 //! Which modules are valid (WebAssembly Core 1.0, chapter 3 and appendix A.3).
 #![tactic(auto)]
 
+mod blocks;
 mod faults;
 mod frames;
 mod indexes;
@@ -8,6 +9,7 @@ mod labels;
 mod operators;
 mod scopes;
 mod shapes;
+mod stages;
 mod tables;
 mod walker;
 

@@ -41,23 +41,12 @@ pub(crate) struct Walker {
 }
 
 impl Model for Walker {
-    ghost use Rattle.std.specs.Prelude.{◌≤◌, length, reverse, take};
-    ghost use Rattle.wasm_validate.specs.Open.{Open, own, blocks_of, AreStacked};
+    ghost use Rattle.std.specs.Prelude.{◌≤◌, length, reverse};
+    ghost use Rattle.wasm_validate.specs.Open.{Open, seen, AreStacked};
 
     ghost Value = { Open };
 
-    ghost view = {
-        λ w. record {
-            now = record {
-                place = w.place;
-                under = w.base;
-                types = own w.base w.operands.items;
-                loose = w.loose;
-                most = w.most;
-            };
-            blocks = record { around = blocks_of (reverse w.frames.items) (take w.base w.operands.items); deepest = w.deepest };
-        }
-    };
+    ghost view = { λ w. seen w.operands.items w.frames.items w.base w.loose w.place w.most w.deepest };
 
     ghost invariant = { λ w. (w.base ≤ length w.operands.items) × AreStacked w.base (reverse w.frames.items) };
 }

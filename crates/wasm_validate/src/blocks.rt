@@ -1,6 +1,7 @@
 //! Blocks, loops and ifs (WebAssembly Core 1.0, sections 3.3.5.2 to 3.3.5.5).
-ghost use Rattle.std.specs.Prelude.{◌≡◌, ◌+◌, ◌<◌, ◌^◌, [], IfOk, OnOk};
+ghost use Rattle.std.specs.Prelude.{◌≡◌, ◌+◌, ◌<◌, ◌≤◌, ◌^◌, [], OnOk};
 ghost use Rattle.wasm_meaning.specs.Typing.{lacks_else, emptied, ended as ended_walk};
+ghost use Rattle.wasm_validate.specs.Open.{height};
 ghost use Rattle.wasm_validate.specs.Outcome.{Tells, Follows};
 ghost use Rattle.wasm_validate.specs.Scopes.{context, context_at};
 ghost use Rattle.wasm_validate.specs.Steps.{inmost_of, left as left_walk, goes_on, opened, open_if as open_if_walk, close as close_walk, turn_over as turn_walk, pass as pass_walk, step as step_walk};
@@ -38,6 +39,7 @@ impl Walker {
         ensures emptied { OnOk result (self.new.now.types ≡ []) }
         ensures blocks { self.new.blocks ≡ self.old.blocks }
         ensures place { self.new.now.place ≡ self.old.now.place }
+        ensures height { height self.new.now ≤ height self.old.now }
     {
         if lacks_else(kind, value) {
             return Err(self.breach(Rule::IfWithoutElse));
@@ -61,7 +63,10 @@ impl Walker {
     // Opens a block, whose list is empty.
     fn open(&mut self, kind: BlockKind, value: Option<ValType>) -> Result<Stage, BodyFault>
         requires room { self.old.now.place + 1 < 2 ^ 32 }
-        ensures { Follows (λ stage. (stage, self.new)) result (goes_on (opened kind value self.old)) }
+        requires few { height self.old.now ≤ self.old.now.place }
+        ensures place { self.new.now.place ≤ self.old.now.place + 1 }
+        ensures height { OnOk result (height self.new.now ≤ self.new.now.place) }
+        ensures walked { Follows (λ stage. (stage, self.new)) result (goes_on (opened kind value self.old)) }
     {
         self.frames.push(Frame {
             kind,
@@ -78,7 +83,10 @@ impl Walker {
 
     fn open_if(&mut self, value: Option<ValType>) -> Result<Stage, BodyFault>
         requires room { self.old.now.place + 1 < 2 ^ 32 }
-        ensures { Follows (λ stage. (stage, self.new)) result (open_if_walk value self.old) }
+        requires few { height self.old.now ≤ self.old.now.place }
+        ensures place { self.new.now.place ≤ self.old.now.place + 1 }
+        ensures height { OnOk result (height self.new.now ≤ self.new.now.place) }
+        ensures walked { Follows (λ stage. (stage, self.new)) result (open_if_walk value self.old) }
     {
         self.take_off(Some(ValType::I32))?;
         self.open(BlockKind::ThenBranch, value)
@@ -89,6 +97,7 @@ impl Walker {
         requires emptied { self.old.now.types ≡ [] }
         ensures left { self.new ≡ left_walk self.old }
         ensures place { self.new.now.place ≡ self.old.now.place }
+        ensures height { height self.new.now ≤ height self.old.now }
     {
         if let Some(frame) = self.frames.pop() {
             self.base = frame.base;
@@ -98,7 +107,10 @@ impl Walker {
 
     fn turn_over(&mut self) -> Result<Stage, BodyFault>
         requires room { self.old.now.place + 1 < 2 ^ 32 }
-        ensures { Follows (λ stage. (stage, self.new)) result (turn_walk self.old) }
+        requires few { height self.old.now ≤ self.old.now.place }
+        ensures place { self.new.now.place ≤ self.old.now.place + 1 }
+        ensures height { OnOk result (height self.new.now ≤ self.new.now.place) }
+        ensures walked { Follows (λ stage. (stage, self.new)) result (turn_walk self.old) }
     {
         let Some((_, value)) = self.inmost() else {
             return Ok(Stage::Over);
@@ -110,7 +122,10 @@ impl Walker {
 
     fn close(&mut self, scope: &Scope<'_>) -> Result<Stage, BodyFault>
         requires room { self.old.now.place + 1 < 2 ^ 32 }
-        ensures { Follows (λ stage. (stage, self.new)) result (close_walk (context scope.now) self.old) }
+        requires few { height self.old.now ≤ self.old.now.place }
+        ensures place { self.new.now.place ≤ self.old.now.place + 1 }
+        ensures height { OnOk result (height self.new.now ≤ self.new.now.place) }
+        ensures walked { Follows (λ stage. (stage, self.new)) result (close_walk (context scope.now) self.old) }
     {
         let Some((kind, value)) = self.inmost() else {
             self.ended(BlockKind::BlockBody, scope.result)?;
@@ -125,7 +140,10 @@ impl Walker {
 
     fn pass(&mut self, scope: &Scope<'_>, op: Op) -> Result<Stage, BodyFault>
         requires room { self.old.now.place + 1 < 2 ^ 32 }
-        ensures { Follows (λ stage. (stage, self.new)) result (pass_walk (context scope.now) op self.old) }
+        requires few { height self.old.now ≤ self.old.now.place }
+        ensures place { self.new.now.place ≤ self.old.now.place + 1 }
+        ensures height { OnOk result (height self.new.now ≤ self.new.now.place) }
+        ensures walked { Follows (λ stage. (stage, self.new)) result (pass_walk (context scope.now) op self.old) }
     {
         self.plain(scope, op)?;
         self.next();
@@ -135,7 +153,10 @@ impl Walker {
     /// One operator.
     pub(crate) fn step(&mut self, scope: &Scope<'_>, op: Op) -> Result<Stage, BodyFault>
         requires room { self.old.now.place + 1 < 2 ^ 32 }
-        ensures { Follows (λ stage. (stage, self.new)) result (step_walk (context scope.now) op self.old) }
+        requires few { height self.old.now ≤ self.old.now.place }
+        ensures place { self.new.now.place ≤ self.old.now.place + 1 }
+        ensures height { OnOk result (height self.new.now ≤ self.new.now.place) }
+        ensures walked { Follows (λ stage. (stage, self.new)) result (step_walk (context scope.now) op self.old) }
     {
         match op {
             Op::Block { result, .. } => self.open(BlockKind::BlockBody, result),

@@ -48,7 +48,15 @@ impl Model for Walker {
 
     ghost view = { λ w. seen w.operands.items w.frames.items w.base w.loose w.place w.most w.deepest };
 
-    ghost invariant = { λ w. (w.base ≤ length w.operands.items) × AreStacked w.base (reverse w.frames.items) };
+    ghost invariant = {
+        λ w. record {
+            within : w.base ≤ length w.operands.items;
+            stacked : AreStacked w.base (reverse w.frames.items);
+            few_frames : length w.frames.items ≤ w.place;
+            few_operands : w.most ≤ w.place;
+            few_blocks : w.deepest ≤ w.place;
+        }
+    };
 }
 
 impl Walker {
@@ -127,6 +135,7 @@ impl Walker {
     /// Goes to the next operator.
     pub(crate) fn next(&mut self)
         requires room { self.old.now.place + 1 < 2 ^ 32 }
+        requires few { height self.old.now ≤ self.old.now.place + 1 }
         ensures next { self.new.now ≡ next_walk self.old.now }
         ensures blocks { self.new.blocks ≡ self.old.blocks }
     {

@@ -1,3 +1,4 @@
 mod IndexSteps
 mod LabelLaws
 mod StackLaws
+mod StepLaws

@@ -8,8 +8,12 @@ use Rattle.wasm_meaning.specs.declared.blocks.BlockKind.{BlockKind}
 use Rattle.wasm_meaning.specs.declared.blocks.BlockKind.TheVariants.{BlockBody, LoopBody, ThenBranch, ElseBranch}
 use Rattle.wasm_meaning.specs.declared.violations.Violation.{Violation}
 use Rattle.wasm_meaning.specs.ValidityChecks.{go_on}
-use Rattle.wasm_meaning.specs.TypingOperands.{Walk, take_off, lay_result}
-use Rattle.wasm_meaning.specs.Typing.{Context, plain, next, enter, ended, back}
+use Rattle.wasm_meaning.specs.TypingOperands.{Walk, start, take_off, lay_result}
+use Rattle.wasm_meaning.specs.Typing.{Context, plain, next, enter, ended, back, body_typed, nest_of}
+use Rattle.wasm_ops.specs.declared.modules.Module.{Module}
+use Rattle.wasm_ops.specs.declared.modules.Body.{Body}
+use Rattle.wasm_ops.specs.declared.types.FuncType.{FuncType}
+use Rattle.wasm_validate.specs.declared.measures.Measure.{Measure}
 use Rattle.wasm_validate.specs.declared.stages.Stage.{Stage}
 use Rattle.wasm_validate.specs.declared.stages.Stage.TheVariants.{Inside, Over}
 use Rattle.wasm_validate.specs.Open.{Block, Open}
@@ -97,3 +101,19 @@ go_further Over walk further = Ok walk
 abbrev pub steps : Context → List Op → Open → Result Open Violation
 steps cx [] walk = Ok walk
 steps cx (o ∷ ops) walk = go_on (step cx o walk) (λ made. go_further made.0 made.1 (λ next. steps cx ops next))
+
+-- before the first operator of a body
+abbrev pub begun : Open
+begun = record { now = start; blocks = record { around = []; deepest = 0 } }
+
+-- What is measured.
+
+abbrev pub measure_of : Open → Measure
+measure_of walk = record { height = walk.now.most; nest = walk.blocks.deepest }
+
+abbrev pub measured : Result Open Violation → Result Measure Violation
+measured walk = go_on walk (λ done. Ok (measure_of done))
+
+-- the greatest height and depth of a body, or the rule that it breaks first
+abbrev pub body_measured : Module → FuncType → Body → Result Measure Violation
+body_measured m type body = go_on (body_typed m type body) (λ walk. Ok (record { height = walk.most; nest = nest_of body }))

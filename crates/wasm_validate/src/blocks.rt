@@ -77,7 +77,7 @@ impl Walker {
         self.base = self.operands.len();
         self.loose = false;
         self.place += 1;
-        self.deepest = self.deepest.max(self.frames.len());
+        self.deepest = self.deepest.max(self.frames.len() as u32);
         Ok(Stage::Inside)
     }
 

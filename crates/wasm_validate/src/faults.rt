@@ -65,3 +65,11 @@ impl<T: Drop> From<AllocFailed<T>> for BodyFault {
         BodyFault::NoMemory
     }
 }
+
+impl From<AllocError> for BodyFault {
+    ghost from_gives = { λ _ result. result ≡ BodyNoMemory };
+
+    fn from(_: AllocError) -> Self {
+        BodyFault::NoMemory
+    }
+}

@@ -2,10 +2,12 @@
 #![tactic(auto)]
 
 mod blocks;
+mod bodies;
 mod faults;
 mod frames;
 mod indexes;
 mod labels;
+mod measures;
 mod operators;
 mod scopes;
 mod shapes;

@@ -4,6 +4,7 @@ use crate::indexes::Indexed;
 use wasm_ops::ValType;
 
 /// What a body's operators look up, beside the labels of its blocks.
+#[derive(Clone, Copy)]
 pub(crate) struct Scope<'a> {
     /// The module.
     pub(crate) whole: &'a Indexed,

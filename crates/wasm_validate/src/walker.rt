@@ -34,10 +34,10 @@ pub(crate) struct Walker {
     pub(crate) place: u32,
 
     /// The most operands so far.
-    pub(crate) most: usize,
+    pub(crate) most: u32,
 
     /// The most open blocks so far.
-    pub(crate) deepest: usize,
+    pub(crate) deepest: u32,
 }
 
 impl Model for Walker {
@@ -52,9 +52,7 @@ impl Model for Walker {
         λ w. record {
             within : w.base ≤ length w.operands.items;
             stacked : AreStacked w.base (reverse w.frames.items);
-            few_frames : length w.frames.items ≤ w.place;
-            few_operands : w.most ≤ w.place;
-            few_blocks : w.deepest ≤ w.place;
+            few : length w.frames.items ≤ w.place;
         }
     };
 }
@@ -140,6 +138,6 @@ impl Walker {
         ensures blocks { self.new.blocks ≡ self.old.blocks }
     {
         self.place += 1;
-        self.most = self.most.max(self.operands.len());
+        self.most = self.most.max(self.operands.len() as u32);
     }
 }

@@ -1,0 +1,7 @@
+-- Those of the imports so far.
+use Rattle.std.proofs.Common.{◌≡◌, take}
+use Rattle.wasm_meaning.specs.ValiditySpaces.{as_global, imported}
+use Rattle.wasm_typing.proofs.indexes.imported_globals.Given as goal
+
+abbrev pub invariant-loop-import : goal.invariant-loop-import
+invariant-loop-import l = l.all.items ≡ imported as_global (take l.import-index l.imports)

@@ -18,7 +18,7 @@ pub struct Indexed {
     functions: Vec<u32>,
 
     /// How many functions are imported.
-    imported: usize,
+    imported: u32,
 
     /// How many tables there are.
     tables: usize,
@@ -113,6 +113,16 @@ fn imported_globals(alloc: Global, imports: &[Import]) -> Result<Vec<GlobalType>
     Ok(all)
 }
 
+fn count_functions(imports: &[Import]) -> usize
+    ensures count { result ≡ length (imported as_function imports.now) }
+    ensures few { result ≤ length imports.now }
+{
+    imports
+        .iter()
+        .filter_map(|import| as_function(&import.item))
+        .count()
+}
+
 fn count_tables(imports: &[Import]) -> usize
     ensures count { result ≡ length (imported as_table imports.now) }
     ensures few { result ≤ length imports.now }
@@ -154,7 +164,7 @@ impl Indexed {
         ensures { IfOk result (λ indexed. indexed ≡ «module») }
     {
         let mut functions = imported_functions(alloc, module.imports.as_slice())?;
-        let imported = functions.len();
+        let imported = count_functions(module.imports.as_slice()) as u32;
         functions.extend_from_slice(module.functions.as_slice())?;
         let tables = count_tables(module.imports.as_slice()) + module.tables.as_slice().len();
         let memories = count_memories(module.imports.as_slice()) + module.memories.as_slice().len();
@@ -178,7 +188,7 @@ impl Indexed {
     }
 
     /// How many functions are imported.
-    pub fn imported(&self) -> usize
+    pub fn imported(&self) -> u32
         ensures { result ≡ count_imported self.now }
     {
         self.imported
@@ -246,5 +256,12 @@ impl Indexed {
     {
         let type_index = self.functions.get(index).copied()?;
         self.type_at(type_index)
+    }
+
+    /// The type of the function that has the body with this number.
+    pub fn body_type(&self, number: u32) -> Option<&FuncType>
+        ensures { option_copied result ≡ body_type self.now number }
+    {
+        self.function_type(self.imported as usize + number as usize)
     }
 }

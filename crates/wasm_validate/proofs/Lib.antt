@@ -1,1 +1,3 @@
+mod BodySteps
+mod ExportSteps
 pub mod Loops

@@ -5,9 +5,13 @@
 //! It stands on `wasm_ops`, `wasm_meaning` and `wasm_typing`, which types the bodies.
 #![tactic(auto)]
 
+mod bodies;
+mod exports;
 mod faults;
 mod lists;
 mod rules;
+mod valid;
 
 pub use faults::ValidFault;
+pub use valid::{Valid, validate};
 pub use wasm_meaning::Broken;

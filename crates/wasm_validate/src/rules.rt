@@ -152,7 +152,7 @@ fn is_bare(function: &FuncType) -> bool
 
 /// Of a function that is entered at the start.
 fn entered_rule(found: Option<&FuncType>) -> Option<Rule>
-    ensures { result ≡ entered_due (option_copied found) }
+    ensures { result ≡ entered_due (option_copied found.entry) }
 {
     match found {
         Some(function) if is_bare(function) => None,

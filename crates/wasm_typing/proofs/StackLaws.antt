@@ -32,9 +32,9 @@ all_of base operands few =
     let whole = take-append-drop base operands in
     from_none (take base operands) (drop base operands) operands none whole
   where
-  from_none : (front back whole : List Operand) → length back ≡ 0 → front ++ back ≡ whole → front ≡ whole
-  from_none front [] whole none same = sym (append-nil front) ∙ same
-  from_none front (t ∷ back) whole none same = absurd (omega arith)
+    from_none : (front back whole : List Operand) → length back ≡ 0 → front ++ back ≡ whole → front ≡ whole
+    from_none front [] whole none same = sym (append-nil front) ∙ same
+    from_none front (t ∷ back) whole none same = absurd (omega arith)
 
 -- the block around the one at hand
 pub left_is

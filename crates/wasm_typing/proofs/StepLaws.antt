@@ -60,12 +60,12 @@ closes
     ≡ go_on (go_on (leave kind result outer inner) (λ after. typed (inside cx around) rest after)) (λ w. steps cx ops (standing w around d'))
 closes cx kind result outer inner around rest more ops d d' same = by_outcome (ended kind result inner)
   where
-  by_outcome
-      : (e : Result Walk Violation)
-      → go_on (go_on e (λ done. goes_on (behind result (left (standing done (block_in kind result outer ∷ around) d))))) (further cx more)
-      ≡ go_on (go_on (go_on e (λ done. Ok (next (lay_result result (back outer done))))) (λ after. typed (inside cx around) rest after)) (λ w. steps cx ops (standing w around d'))
-  by_outcome (Ok done) = same (next (lay_result result (back outer done)))
-  by_outcome (Err e) = refl
+    by_outcome
+        : (e : Result Walk Violation)
+        → go_on (go_on e (λ done. goes_on (behind result (left (standing done (block_in kind result outer ∷ around) d))))) (further cx more)
+        ≡ go_on (go_on (go_on e (λ done. Ok (next (lay_result result (back outer done))))) (λ after. typed (inside cx around) rest after)) (λ w. steps cx ops (standing w around d'))
+    by_outcome (Ok done) = same (next (lay_result result (back outer done)))
+    by_outcome (Err e) = refl
 
 -- the second part of an `if`
 turns
@@ -74,12 +74,12 @@ turns
     ≡ go_on (turn result outer inner) (λ between. steps cx more (standing between (block_in ElseBranch result outer ∷ around) (max d (length around + 1))))
 turns cx result outer inner around end more d = by_outcome (ended ElseBranch result inner)
   where
-  by_outcome
-      : (e : Result Walk Violation)
-      → go_on (go_on e (λ done. goes_on (opened ElseBranch result (left (standing done (block_in ThenBranch result outer ∷ around) d))))) (further cx more)
-      ≡ go_on (go_on e (λ done. Ok (enter (back outer done)))) (λ between. steps cx more (standing between (block_in ElseBranch result outer ∷ around) (max d (length around + 1))))
-  by_outcome (Ok done) = refl
-  by_outcome (Err e) = refl
+    by_outcome
+        : (e : Result Walk Violation)
+        → go_on (go_on e (λ done. goes_on (opened ElseBranch result (left (standing done (block_in ThenBranch result outer ∷ around) d))))) (further cx more)
+        ≡ go_on (go_on e (λ done. Ok (enter (back outer done)))) (λ between. steps cx more (standing between (block_in ElseBranch result outer ∷ around) (max d (length around + 1))))
+    by_outcome (Ok done) = refl
+    by_outcome (Err e) = refl
 
 pub walks
     : (cx : Context) (s : Sequence) (at : ℕ) (ops : List Op) (now : Walk) (around : List Block) (d d' : ℕ) → IsNested s → length around ≤ d
@@ -126,12 +126,12 @@ walks cx (InIf result inner rest) at ops now around d d' is few deep =
     through (take_off (Some I32) now) (λ outer. goes_on (opened ThenBranch result (standing outer around d)))
     (further cx ((flat (at + 1) inner ++ op.End ∷ after) ++ ops)) _ (λ w. steps cx ops (standing w around d'))
     (λ outer. let b = block_in ThenBranch result outer in
-        let room : length (b ∷ around) ≤ d1 = omega arith in
-        let within : d2 ≡ max d1 (length (b ∷ around) + depth inner) = omega arith in
-        ap (λ (all : List Op). steps cx all (standing (enter outer) (b ∷ around) d1)) (append_assoc (flat (at + 1) inner) (op.End ∷ after) ops)
-        ∙ (walks cx inner (at + 1) (op.End ∷ (after ++ ops)) (enter outer) (b ∷ around) d1 d2 is.0 room within
-        ∙ into (typed (inside cx (b ∷ around)) inner (enter outer)) _ (λ one. go_on (leave ThenBranch result outer one) (λ w. typed (inside cx around) rest w)) (λ w. steps cx ops (standing w around d'))
-        (λ one. closes cx ThenBranch result outer one around rest (after ++ ops) ops d2 d' (λ w. walks cx rest (at + 2 + size inner) ops w around d2 d' is.1 few' whole))))
+    let room : length (b ∷ around) ≤ d1 = omega arith in
+    let within : d2 ≡ max d1 (length (b ∷ around) + depth inner) = omega arith in
+    ap (λ (all : List Op). steps cx all (standing (enter outer) (b ∷ around) d1)) (append_assoc (flat (at + 1) inner) (op.End ∷ after) ops)
+    ∙ (walks cx inner (at + 1) (op.End ∷ (after ++ ops)) (enter outer) (b ∷ around) d1 d2 is.0 room within
+    ∙ into (typed (inside cx (b ∷ around)) inner (enter outer)) _ (λ one. go_on (leave ThenBranch result outer one) (λ w. typed (inside cx around) rest w)) (λ w. steps cx ops (standing w around d'))
+    (λ one. closes cx ThenBranch result outer one around rest (after ++ ops) ops d2 d' (λ w. walks cx rest (at + 2 + size inner) ops w around d2 d' is.1 few' whole))))
 walks cx (InIfElse result inner other rest) at ops now around d d' is few deep =
     let after = flat (at + 3 + size inner + size other) rest in
     let second = flat (at + 2 + size inner) other in
@@ -145,21 +145,21 @@ walks cx (InIfElse result inner other rest) at ops now around d d' is few deep =
     through (take_off (Some I32) now) (λ outer. goes_on (opened ThenBranch result (standing outer around d)))
     (further cx ((flat (at + 1) inner ++ op.Else end ∷ (second ++ op.End ∷ after)) ++ ops)) _ (λ w. steps cx ops (standing w around d'))
     (λ outer. let b = block_in ThenBranch result outer in
-        let e = block_in ElseBranch result outer in
-        let room : length (b ∷ around) ≤ d1 = omega arith in
-        let within : d2 ≡ max d1 (length (b ∷ around) + depth inner) = omega arith in
-        let room' : length (e ∷ around) ≤ d3 = omega arith in
-        let within' : d4 ≡ max d3 (length (e ∷ around) + depth other) = omega arith in
-        ap (λ (all : List Op). steps cx all (standing (enter outer) (b ∷ around) d1)) (append_assoc (flat (at + 1) inner) (op.Else end ∷ (second ++ op.End ∷ after)) ops)
-        ∙ (walks cx inner (at + 1) (op.Else end ∷ ((second ++ op.End ∷ after) ++ ops)) (enter outer) (b ∷ around) d1 d2 is.0 room within
-        ∙ into (typed (inside cx (b ∷ around)) inner (enter outer)) _ _ (λ w. steps cx ops (standing w around d'))
-        (λ one. turns cx result outer one around end ((second ++ op.End ∷ after) ++ ops) d2
-            ∙ into (turn result outer one) _ _ (λ w. steps cx ops (standing w around d'))
-            (λ between.
-                ap (λ (all : List Op). steps cx all (standing between (e ∷ around) d3)) (append_assoc second (op.End ∷ after) ops)
-                ∙ (walks cx other (at + 2 + size inner) (op.End ∷ (after ++ ops)) between (e ∷ around) d3 d4 is.1 room' within'
-                ∙ into (typed (inside cx (e ∷ around)) other between) _ (λ two. go_on (leave ElseBranch result outer two) (λ w. typed (inside cx around) rest w)) (λ w. steps cx ops (standing w around d'))
-                (λ two. closes cx ElseBranch result outer two around rest (after ++ ops) ops d4 d' (λ w. walks cx rest (at + 3 + size inner + size other) ops w around d4 d' is.2 few' whole)))))))
+    let e = block_in ElseBranch result outer in
+    let room : length (b ∷ around) ≤ d1 = omega arith in
+    let within : d2 ≡ max d1 (length (b ∷ around) + depth inner) = omega arith in
+    let room' : length (e ∷ around) ≤ d3 = omega arith in
+    let within' : d4 ≡ max d3 (length (e ∷ around) + depth other) = omega arith in
+    ap (λ (all : List Op). steps cx all (standing (enter outer) (b ∷ around) d1)) (append_assoc (flat (at + 1) inner) (op.Else end ∷ (second ++ op.End ∷ after)) ops)
+    ∙ (walks cx inner (at + 1) (op.Else end ∷ ((second ++ op.End ∷ after) ++ ops)) (enter outer) (b ∷ around) d1 d2 is.0 room within
+    ∙ into (typed (inside cx (b ∷ around)) inner (enter outer)) _ _ (λ w. steps cx ops (standing w around d'))
+    (λ one. turns cx result outer one around end ((second ++ op.End ∷ after) ++ ops) d2
+    ∙ into (turn result outer one) _ _ (λ w. steps cx ops (standing w around d'))
+    (λ between.
+    ap (λ (all : List Op). steps cx all (standing between (e ∷ around) d3)) (append_assoc second (op.End ∷ after) ops)
+    ∙ (walks cx other (at + 2 + size inner) (op.End ∷ (after ++ ops)) between (e ∷ around) d3 d4 is.1 room' within'
+    ∙ into (typed (inside cx (e ∷ around)) other between) _ (λ two. go_on (leave ElseBranch result outer two) (λ w. typed (inside cx around) rest w)) (λ w. steps cx ops (standing w around d'))
+    (λ two. closes cx ElseBranch result outer two around rest (after ++ ops) ops d4 d' (λ w. walks cx rest (at + 3 + size inner + size other) ops w around d4 d' is.2 few' whole)))))))
 
 -- a whole body, whose last operator closes it
 whole : (cx : Context) (s : Sequence) → IsNested s → steps cx (flat_body s) begun ≡ go_on (typed_body cx s) (λ walk. Ok (standing walk [] (depth s)))
@@ -167,11 +167,11 @@ whole cx s is =
     walks cx s 0 (op.End ∷ []) start [] 0 (depth s) is (omega arith) (omega arith)
     ∙ into (typed cx s start) _ (ended BlockBody cx.result) (λ walk. Ok (standing walk [] (depth s))) (λ walk. by_outcome (ended BlockBody cx.result walk))
   where
-  by_outcome
-      : (e : Result Walk Violation)
-      → go_on (go_on e (λ done. Ok (Over, standing done [] (depth s)))) (further cx []) ≡ go_on e (λ walk. Ok (standing walk [] (depth s)))
-  by_outcome (Ok done) = refl
-  by_outcome (Err e) = refl
+    by_outcome
+        : (e : Result Walk Violation)
+        → go_on (go_on e (λ done. Ok (Over, standing done [] (depth s)))) (further cx []) ≡ go_on e (λ walk. Ok (standing walk [] (depth s)))
+    by_outcome (Ok done) = refl
+    by_outcome (Err e) = refl
 
 -- what is measured of a body that was read
 pub body_is
@@ -186,10 +186,11 @@ body_is m type body locals targets ops formed locals_are targets_are ops_are =
     let walked = ap (λ (all : List Op). steps cx all begun) formed.stands.laid_out ∙ whole cx s formed.stands.nested in
     rw (locals_are, targets_are, ops_are) (ap measured walked ∙ (by_outcome s (typed_body cx s) ∙ ap (λ (t : Sequence). of_sequence cx t) (sym nested)))
   where
-  of_sequence : Context → Sequence → Result Measure Violation
-  of_sequence cx t = go_on (typed_body cx t) (λ walk. Ok (record { height = walk.most; nest = depth t }))
-  by_outcome
-      : (s : Sequence) (r : Result Walk Violation)
-      → measured (go_on r (λ walk. Ok (standing walk [] (depth s)))) ≡ go_on r (λ walk. Ok (record { height = walk.most; nest = depth s }))
-  by_outcome s (Ok walk) = refl
-  by_outcome s (Err e) = refl
+    of_sequence : Context → Sequence → Result Measure Violation
+    of_sequence cx t = go_on (typed_body cx t) (λ walk. Ok (record { height = walk.most; nest = depth t }))
+
+    by_outcome
+        : (s : Sequence) (r : Result Walk Violation)
+        → measured (go_on r (λ walk. Ok (standing walk [] (depth s)))) ≡ go_on r (λ walk. Ok (record { height = walk.most; nest = depth s }))
+    by_outcome s (Ok walk) = refl
+    by_outcome s (Err e) = refl

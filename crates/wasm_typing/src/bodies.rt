@@ -42,7 +42,11 @@ fn walk(alloc: Global, scope: &Scope<'_>, ops: &[Op]) -> Result<Measure, BodyFau
     Ok(walker.measure())
 }
 
-fn locals_of(alloc: Global, params: &[ValType], locals: &[ValType]) -> Result<Vec<ValType>, AllocError>
+fn locals_of(
+    alloc: Global,
+    params: &[ValType],
+    locals: &[ValType],
+) -> Result<Vec<ValType>, AllocError>
     ensures { IfOk result (λ all. all.items ≡ params.now ++ locals.now) }
 {
     let mut all = Vec::from_slice(alloc, params)?;

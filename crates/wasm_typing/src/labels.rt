@@ -65,12 +65,7 @@ impl Walker {
     }
 
     /// Whether a branch to each of the labels takes just this.
-    pub(crate) fn all_agree(
-        &self,
-        scope: &Scope<'_>,
-        due: Option<ValType>,
-        labels: &[u32],
-    ) -> bool
+    pub(crate) fn all_agree(&self, scope: &Scope<'_>, due: Option<ValType>, labels: &[u32]) -> bool
         ensures { result ≡ list_all (agrees (context_at scope.now self.now) due) labels.now }
     {
         labels.iter().all(|label| match self.label(scope, *label) {

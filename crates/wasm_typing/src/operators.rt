@@ -117,7 +117,10 @@ impl Walker {
     fn local(&self, scope: &Scope<'_>, index: u32) -> Result<ValType, Violation>
         ensures { Tells (λ t. t) result (known_walk Rule.UnknownIndex self.now.now (slice_get scope.now.locals.now index)) }
     {
-        self.known(Rule::UnknownIndex, scope.locals.get(index as usize).copied())
+        self.known(
+            Rule::UnknownIndex,
+            scope.locals.get(index as usize).copied(),
+        )
     }
 
     fn global(&self, scope: &Scope<'_>, index: u32) -> Result<GlobalType, Violation>

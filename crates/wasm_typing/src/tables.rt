@@ -51,7 +51,12 @@ impl Walker {
     }
 
     /// `br_table`, whose labels stand among those of the body.
-    pub(crate) fn br_table(&mut self, scope: &Scope<'_>, from: u32, count: u32) -> Result<(), BodyFault>
+    pub(crate) fn br_table(
+        &mut self,
+        scope: &Scope<'_>,
+        from: u32,
+        count: u32,
+    ) -> Result<(), BodyFault>
         ensures walked { Follows (λ u. self.new.now) result (plain_walk (context_at scope.now self.old) (op.BrTable from count) self.old.now) }
         ensures blocks { self.new.blocks ≡ self.old.blocks }
         ensures place { self.new.now.place ≡ self.old.now.place }

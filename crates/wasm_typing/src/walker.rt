@@ -48,13 +48,11 @@ impl Model for Walker {
 
     ghost view = { λ w. seen w.operands.items w.frames.items w.base w.loose w.place w.most w.deepest };
 
-    ghost invariant = {
-        λ w. record {
-            within : w.base ≤ length w.operands.items;
-            stacked : AreStacked w.base (reverse w.frames.items);
-            few : length w.frames.items ≤ w.place;
-        }
-    };
+    ghost invariant = { λ w. record {
+      within : w.base ≤ length w.operands.items;
+      stacked : AreStacked w.base (reverse w.frames.items);
+      few : length w.frames.items ≤ w.place;
+    } };
 }
 
 impl Walker {
@@ -111,7 +109,10 @@ impl Walker {
     }
 
     /// Lays an operand.
-    pub(crate) fn lay(&mut self, operand: Option<ValType>) -> Result<(), AllocFailed<Option<ValType>>>
+    pub(crate) fn lay(
+        &mut self,
+        operand: Option<ValType>,
+    ) -> Result<(), AllocFailed<Option<ValType>>>
         ensures laid { OnOk result (self.new.now ≡ lay_walk operand self.old.now) }
         ensures blocks { self.new.blocks ≡ self.old.blocks }
         ensures place { self.new.now.place ≡ self.old.now.place }

@@ -25,21 +25,24 @@ measured_more m i number b measures made so_far lt at place high deep = record {
   each = λ k d within. below_more (λ (n : ℕ). get_or (measures ++ made ∷ []) n d ≡ measure_at m n) i (λ n lower. before n d lower) (last d) k within;
 }
   where
-  here : slice_get m.bodies i ≡ Some b
-  here = slice_get-get_or m.bodies i b lt ∙ ap Some (sym at)
-  is_made : made ≡ measure_at m i
-  is_made =
-      measure_is made (body_height m i) (body_nest m i)
-      (high ∙ (ap (λ (n : ℕ). height_in m (body_type m n) (Some b)) place ∙ ap (λ (o : Option Body). height_in m (body_type m i) o) (sym here)))
-      (deep ∙ ap (λ (o : Option Body). nest_in o) (sym here))
-  before : (n : ℕ) (d : Measure) → n < i → get_or (measures ++ made ∷ []) n d ≡ measure_at m n
-  before n d lower =
-      let few : n < length measures = omega (arith, so_far.count) in get_or_append_left measures (made ∷ []) d n few ∙ so_far.each n d lower
-  last : (d : Measure) → get_or (measures ++ made ∷ []) i d ≡ measure_at m i
-  last d =
-      let behind : length measures ≤ i = omega (arith, so_far.count) in
-      let none : i - length measures ≡ 0 = omega (arith, so_far.count) in
-      get_or-append_right measures (made ∷ []) (length measures) i d refl behind ∙ rw none is_made
+    here : slice_get m.bodies i ≡ Some b
+    here = slice_get-get_or m.bodies i b lt ∙ ap Some (sym at)
+
+    is_made : made ≡ measure_at m i
+    is_made =
+        measure_is made (body_height m i) (body_nest m i)
+        (high ∙ (ap (λ (n : ℕ). height_in m (body_type m n) (Some b)) place ∙ ap (λ (o : Option Body). height_in m (body_type m i) o) (sym here)))
+        (deep ∙ ap (λ (o : Option Body). nest_in o) (sym here))
+
+    before : (n : ℕ) (d : Measure) → n < i → get_or (measures ++ made ∷ []) n d ≡ measure_at m n
+    before n d lower =
+        let few : n < length measures = omega (arith, so_far.count) in get_or_append_left measures (made ∷ []) d n few ∙ so_far.each n d lower
+
+    last : (d : Measure) → get_or (measures ++ made ∷ []) i d ≡ measure_at m i
+    last d =
+        let behind : length measures ≤ i = omega (arith, so_far.count) in
+        let none : i - length measures ≡ 0 = omega (arith, so_far.count) in
+        get_or-append_right measures (made ∷ []) (length measures) i d refl behind ∙ rw none is_made
 
 -- the next body breaks no rule
 pub body_goes
@@ -49,5 +52,5 @@ body_goes m i number b lt at place walked =
     let next = next_item (next_body m) m.bodies i b lt at in
     let count : length (take i m.bodies) ≡ number = length-take-le i m.bodies (omega arith) ∙ sym place in
     sym (next
-      ∙ (ap (λ (n : ℕ). go_on (body_walk m n b) (λ passed. each_behind (next_body m) (take (i + 1) m.bodies) (drop (i + 1) m.bodies))) count
-      ∙ ap (λ (c : Check). go_on c (λ passed. each_behind (next_body m) (take (i + 1) m.bodies) (drop (i + 1) m.bodies))) walked))
+    ∙ (ap (λ (n : ℕ). go_on (body_walk m n b) (λ passed. each_behind (next_body m) (take (i + 1) m.bodies) (drop (i + 1) m.bodies))) count
+    ∙ ap (λ (c : Check). go_on c (λ passed. each_behind (next_body m) (take (i + 1) m.bodies) (drop (i + 1) m.bodies))) walked))

@@ -40,17 +40,17 @@ pub names_more
     → HasNames after (take (i + 1) exports)
 names_more before after exports i e key has lt at is updates = record {
   has = λ name.
-    let new = updates.0 (record { ref_ptr = (0, 0); now = name }) in
-    let same = is_eq-slice_cmp key.now name in
-    let older = has.has name in
-    let more = used_more exports i e name lt in
-    let seen = contains_by (λ (k : Bor (List ℕ)). slice_cmp nat_cmp name k.now) before in
-    let named : key.now ≡ (get_or exports i e).name = is ∙ ap (λ (x : Export). x.name) at in
-    new
-    ∙ (ap (λ (b : Bool). cond b true seen) same
-    ∙ (ap (λ (b : Bool). cond (bytes_eq key.now name) true b) older
-    ∙ (either (is_used (take i exports) name) (bytes_eq key.now name)
-    ∙ (ap (λ (n : List ℕ). is_used (take i exports) name || (bytes_eq n name || false)) named ∙ sym more))));
+      let new = updates.0 (record { ref_ptr = (0, 0); now = name }) in
+      let same = is_eq-slice_cmp key.now name in
+      let older = has.has name in
+      let more = used_more exports i e name lt in
+      let seen = contains_by (λ (k : Bor (List ℕ)). slice_cmp nat_cmp name k.now) before in
+      let named : key.now ≡ (get_or exports i e).name = is ∙ ap (λ (x : Export). x.name) at in
+      new
+      ∙ (ap (λ (b : Bool). cond b true seen) same
+      ∙ (ap (λ (b : Bool). cond (bytes_eq key.now name) true b) older
+      ∙ (either (is_used (take i exports) name) (bytes_eq key.now name)
+      ∙ (ap (λ (n : List ℕ). is_used (take i exports) name || (bytes_eq n name || false)) named ∙ sym more))));
 }
 
 twice : (b : Bool) → not (not b) ≡ b
@@ -64,5 +64,5 @@ pub judged
     → next_export_rule m before x ≡ found
 judged m names before x key is_new found has is new was =
     let used : not is_new ≡ is_used before x.name =
-        ap not new ∙ (twice (contains by_bytes names key) ∙ (has.has key.now ∙ ap (λ (n : List ℕ). is_used before n) is)) in
+    ap not new ∙ (twice (contains by_bytes names key) ∙ (has.has key.now ∙ ap (λ (n : List ℕ). is_used before n) is)) in
     ap (λ (b : Bool). export_rule m b x) (sym used) ∙ sym was

@@ -26,7 +26,12 @@ fn in_body(number: u32, rule: Rule, item: u32) -> Broken
     }
 }
 
-fn body_walk(alloc: Global, whole: &Indexed, number: u32, body: &Body) -> Result<Measure, ValidFault>
+fn body_walk(
+    alloc: Global,
+    whole: &Indexed,
+    number: u32,
+    body: &Body,
+) -> Result<Measure, ValidFault>
     requires formed { IsWellFormedBody body.now }
     ensures walked { Gives (λ measure. tt) result (body_due whole.now number body.now) }
     ensures height { IfOk result (λ measure. measure.height ≡ height_in whole.now (body_type whole.now number) (Some body.now)) }

@@ -4,7 +4,9 @@ ghost use Rattle.wasm_meaning.specs.ValidityRules.{rule_number};
 ghost use Rattle.wasm_meaning.specs.Validity.{is_unknown, are_known, is_above, exceeds, function_rule as function_due, table_rule as table_due, memory_rule as memory_due, import_rule as import_due, global_rule as global_due, count_of as count_due, export_rule as export_due, is_bare as is_bare_due, entered_rule as entered_due, start_rule as start_due, element_rule as element_due, segment_rule as segment_due};
 
 use wasm_meaning::{Broken, Rule};
-use wasm_ops::{ByteSegment, ElementSegment, Export, FuncType, GlobalDef, ImportItem, Limits, ValType};
+use wasm_ops::{
+    ByteSegment, ElementSegment, Export, FuncType, GlobalDef, ImportItem, Limits, ValType,
+};
 use wasm_typing::{Indexed, same_type};
 
 /// The most pages of a memory: 4 GiB in pages of 64 KiB.
@@ -96,7 +98,12 @@ pub(crate) fn memory_rule(another: bool, limits: Limits) -> Option<Rule>
 }
 
 /// Of an import, where a table and a memory were imported before it or not.
-pub(crate) fn import_rule(types: usize, table: bool, memory: bool, item: &ImportItem) -> Option<Rule>
+pub(crate) fn import_rule(
+    types: usize,
+    table: bool,
+    memory: bool,
+    item: &ImportItem,
+) -> Option<Rule>
     ensures { result ≡ import_due types table memory item.now }
 {
     match item {
@@ -172,7 +179,11 @@ pub(crate) fn start_rule(whole: &Indexed, start: Option<u32>) -> Option<Rule>
 }
 
 /// Of an element segment.
-pub(crate) fn element_rule(tables: usize, functions: usize, element: &ElementSegment) -> Option<Rule>
+pub(crate) fn element_rule(
+    tables: usize,
+    functions: usize,
+    element: &ElementSegment,
+) -> Option<Rule>
     ensures { result ≡ element_due tables functions element.now }
 {
     if is_unknown(tables, element.table) {

@@ -13,7 +13,7 @@ loop-body-preserved c =
     record {
       place = omega arith;
       measured = rw c.in_ok-push.ensures.items
-        (measured_more c.args.whole.now c.loop-body.body-index c.loop-body.number c.body-item.result c.loop-body.measures.items c.in_ok-body_walk.field-0
-        inv.measured lt at inv.place c.in_ok-body_walk.ensures.height c.in_ok-body_walk.ensures.nest);
+          (measured_more c.args.whole.now c.loop-body.body-index c.loop-body.number c.body-item.result c.loop-body.measures.items c.in_ok-body_walk.field-0
+          inv.measured lt at inv.place c.in_ok-body_walk.ensures.height c.in_ok-body_walk.ensures.nest);
       same = body_goes c.args.whole.now c.loop-body.body-index c.loop-body.number c.body-item.result lt at inv.place c.in_ok-body_walk.ensures.walked ∙ inv.same;
     }

@@ -1,3 +1,4 @@
 mod BodySteps
 mod ExportSteps
 pub mod Loops
+mod Results

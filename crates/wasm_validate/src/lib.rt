@@ -8,6 +8,7 @@
 mod bodies;
 mod exports;
 mod faults;
+pub mod laws;
 mod lists;
 mod rules;
 mod valid;

@@ -1,0 +1,108 @@
+#!/usr/bin/env python3
+"""Times the built program on valid modules of nearly 4 MiB and of half that size.
+
+    validate_module.py       builds the program where it is not built, by the script `sledge` at the top
+
+For each kind of module it prints both times in milliseconds and their ratio: where reading and checking are linear, the
+ratio is 2, and one above 2.3 is told as a failure. A time is the least of several runs, without that of a file which is
+the header alone. The modules are valid and not run, so each run has to end with `module 90 0 0` and exit status 5.
+"""
+
+import subprocess
+import sys
+import tempfile
+
+import read_module
+from read_module import CONST_AND_DROP, END, HEADER, MOST_BYTES, ROOM, SCRIPT, functions, number, section, sized
+
+GREATEST_RATIO = 2.3
+NO_LOCALS = b"\0"
+
+
+def one_body(content, local_types=NO_LOCALS):
+    return functions([local_types + content + END])
+
+
+def repeated(piece, size):
+    """The piece as often as it fits."""
+    return piece * ((size - ROOM) // len(piece))
+
+
+def many_functions(size):
+    """Bodies of 419 bytes, so that 4 MiB has nearly as many functions as a module may have, which is 10,000."""
+    body = NO_LOCALS + CONST_AND_DROP * 139 + END
+    return functions([body] * ((size - ROOM) // (len(sized(body)) + 1)))
+
+
+def long_body(size):
+    return one_body(repeated(CONST_AND_DROP, size))
+
+
+def high_stack(size):
+    """As many constants as drops, so that the operand list grows over half of the body."""
+    count = (size - ROOM) // len(CONST_AND_DROP)
+    return one_body(CONST_AND_DROP[:2] * count + CONST_AND_DROP[2:] * count)
+
+
+def many_exports(size):
+    """Exports of one global, by names of their own of four letters."""
+    letters = b"abcdefghijklmnopqrstuvwxyz012345"
+    count = (size - ROOM) // 7
+    names = (bytes(letters[place >> shift & 31] for shift in (0, 5, 10, 15)) for place in range(count))
+    exports = b"".join(sized(name) + b"\x03\x00" for name in names)
+    return HEADER + section(6, bytes.fromhex("01 7F 00 41 00 0B")) + section(7, number(count) + exports)
+
+
+def branch_tables(size):
+    """One `br_table` behind the other, each with 4,096 labels."""
+    return one_body(repeated(b"\x41\x00\x0e" + number(4096) + bytes(4096) + b"\x00", size))
+
+
+def deep_blocks(size):
+    """999 blocks in one another, again and again."""
+    return one_body(repeated(b"\x02\x40" * 999 + END * 999, size))
+
+
+def far_labels(size):
+    """Branches out of 999 blocks."""
+    branch = b"\x41\x00\x0d" + number(999)
+    return one_body(b"\x02\x40" * 999 + repeated(branch, size - 3_000) + END * 999)
+
+
+def far_locals(size):
+    """The last one of 1,024 locals."""
+    local_types = number(1) + number(1024) + b"\x7e"
+    return one_body(repeated(b"\x20" + number(1023) + b"\x1a", size), local_types)
+
+
+KINDS = [
+    ("many functions", many_functions),
+    ("one long body", long_body),
+    ("a high operand list", high_stack),
+    ("many exports", many_exports),
+    ("tables of 4,096 labels", branch_tables),
+    ("deep blocks", deep_blocks),
+    ("branches out of 999 blocks", far_labels),
+    ("the last of 1,024 locals", far_locals),
+]
+
+
+def main():
+    subprocess.run([SCRIPT, "--version"], stdout=subprocess.DEVNULL, check=True)
+    failed = 0
+    with tempfile.TemporaryDirectory() as folder:
+        with open(f"{folder}/body", "wb"):
+            pass
+        start = read_module.least_time(folder, HEADER)
+        print(f"the header alone: {start:.1f} ms")
+        for name, module in KINDS:
+            half, whole = module(MOST_BYTES // 2), module(MOST_BYTES)
+            assert len(whole) <= MOST_BYTES, len(whole)
+            one, two = (read_module.least_time(folder, content) - start for content in (half, whole))
+            failed += two / one > GREATEST_RATIO
+            print(f"{name}: {one:.1f} ms for {len(half)} bytes, {two:.1f} ms for {len(whole)}, ratio {two / one:.2f}")
+    return failed != 0
+
+
+if __name__ == "__main__":
+    sys.exit(main())

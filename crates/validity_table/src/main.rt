@@ -1,0 +1,54 @@
+//! Reads modules, a line each in hexadecimal, and prints whether they are valid: the operand height and the block depth of each body, or the number, the body and the item of the first rule that is broken.
+//!
+//! `stdin` and `stdout` are what `tests/validity.py` makes of its tables. It stands on `wasm_reader` and `wasm_validate`.
+#![tactic(auto)]
+
+use std::alloc::Global;
+use std::io;
+use wasm_reader::read_module;
+use wasm_validate::{Broken, Valid, ValidFault, validate};
+
+/// Prints the operand height and the block depth of each body.
+fn print_valid(rt: &impl Print, valid: &Valid) -> io::Result<()> {
+    print!(rt; "valid")?;
+    let mut number = 0;
+    for _ in valid.module().bodies.as_slice() {
+        let height = valid.height(number);
+        let nest = valid.nest(number);
+        print!(rt; " {height}/{nest}")?;
+        number += 1;
+    }
+    println!(rt; "")
+}
+
+/// Prints what is broken first.
+fn print_broken(rt: &impl Print, broken: Broken) -> io::Result<()> {
+    let number = broken.number;
+    let item = broken.item;
+    match broken.function {
+        Some(function) => println!(rt; "broken {number} {function} {item}"),
+        None => println!(rt; "broken {number} - {item}"),
+    }
+}
+
+/// Prints what is made of a line.
+fn print_line(rt: &impl Print, alloc: Global, line: &str) -> io::Result<()> {
+    let Ok(bytes) = hex::decode(alloc, line) else {
+        return println!(rt; "no hexadecimal digits");
+    };
+    let Ok(module) = read_module(alloc, &bytes) else {
+        return println!(rt; "no module");
+    };
+    match validate(alloc, module) {
+        Ok(valid) => print_valid(rt, &valid),
+        Err(ValidFault::Rule(broken)) => print_broken(rt, broken),
+        Err(ValidFault::NoMemory) => println!(rt; "no memory"),
+    }
+}
+
+fn main(rt: HostRuntime) -> io::Result<()> {
+    for line in rt.lines(rt.alloc()) {
+        print_line(&rt, rt.alloc(), line?.as_str())?;
+    }
+    Ok(())
+}

@@ -37,16 +37,16 @@ just (Some t) place under (have ∷ more ∷ types) loose most done e =
 pub leaves : (cx : Context) (s : Sequence) (done : Walk) → typed_body cx s ≡ Ok done → LeavesResult cx s
 leaves cx s done e = by_outcome (typed cx s start) refl e
   where
-  by_outcome : (r : Result Walk Violation) → typed cx s start ≡ r → go_on r (ended BlockBody cx.result) ≡ Ok done → LeavesResult cx s
-  by_outcome (Ok last) is ends = record { last = last; is_typed = is; just = just cx.result last.place last.under last.types last.loose last.most done ends }
-  by_outcome (Err violation) is ends = let bad : ⊥ = cc in absurd bad
+    by_outcome : (r : Result Walk Violation) → typed cx s start ≡ r → go_on r (ended BlockBody cx.result) ≡ Ok done → LeavesResult cx s
+    by_outcome (Ok last) is ends = record { last = last; is_typed = is; just = just cx.result last.place last.under last.types last.loose last.most done ends }
+    by_outcome (Err violation) is ends = let bad : ⊥ = cc in absurd bad
 
 pub one_holds : (m : Module) → (module_walk m ≡ Ok tt) ⊎ ((broken : Broken) × (module_walk m ≡ Err broken))
 one_holds m = by_outcome (module_walk m) refl
   where
-  by_outcome : (check : Check) → module_walk m ≡ check → (module_walk m ≡ Ok tt) ⊎ ((broken : Broken) × (module_walk m ≡ Err broken))
-  by_outcome (Ok passed) e = inl e
-  by_outcome (Err broken) e = inr (broken, e)
+    by_outcome : (check : Check) → module_walk m ≡ check → (module_walk m ≡ Ok tt) ⊎ ((broken : Broken) × (module_walk m ≡ Err broken))
+    by_outcome (Ok passed) e = inl e
+    by_outcome (Err broken) e = inr (broken, e)
 
 pub never_both : (m : Module) (broken : Broken) → module_walk m ≡ Ok tt → module_walk m ≡ Err broken → ⊥
 never_both m broken valid breaks_one = cc

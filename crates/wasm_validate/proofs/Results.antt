@@ -16,7 +16,7 @@ use Rattle.wasm_validate.specs.Results.{IsJust, LeavesResult}
 -- the last operand, where it is one that serves or not
 one_left
     : (t : ValType) (have : Operand) (types : List Operand) (now done : Walk) (serves : Bool)
-    → go_on (go_on (if serves then Ok (exact (Some t) have, record now { types = types }) else breaks OperandType now) (λ pulled. Ok pulled.1)) emptied ≡ Ok done
+    → go_on (go_on {A = Operand × Walk} (if serves then Ok (exact (Some t) have, record now { types = types }) else breaks OperandType now) (λ pulled. Ok pulled.1)) emptied ≡ Ok done
     → (serves ≡ true) × (types ≡ [])
 one_left t have [] now done true e = (refl, refl)
 one_left t have (more ∷ types) now done true e = let bad : ⊥ = cc in absurd bad

@@ -8,15 +8,20 @@ use std::io;
 use wasm_reader::read_module;
 use wasm_validate::{Broken, Valid, ValidFault, validate};
 
+/// The most bodies that a module can have.
+const MOST_BODIES: u32 = 10_000;
+
 /// Prints the operand height and the block depth of each body.
 fn print_valid(rt: &impl Print, valid: &Valid) -> io::Result<()> {
     print!(rt; "valid")?;
-    let mut number = 0;
-    for _ in valid.module().bodies.as_slice() {
+    let count = valid.module().bodies.as_slice().len();
+    for number in 0..MOST_BODIES {
+        if count <= number as usize {
+            break;
+        }
         let height = valid.height(number);
         let nest = valid.nest(number);
         print!(rt; " {height}/{nest}")?;
-        number += 1;
     }
     println!(rt; "")
 }

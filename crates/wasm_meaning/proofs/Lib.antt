@@ -10,6 +10,7 @@ mod Modules
 mod NumericExamples
 mod RequestExamples
 mod TypingExamples
+pub mod TypingLaws
 mod ValidityExamples
 mod VariableExamples
 mod WholeProgram

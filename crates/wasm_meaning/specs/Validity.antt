@@ -1,5 +1,5 @@
 -- Which modules are valid, and which rule any other one breaks first (WebAssembly Core 1.0, section 3.4).
-use Rattle.std.specs.Prelude.{ℕ, ◌==◌, Bool, false, not, ◌&&◌, ◌||◌, nat_lt, nat_le, List, [], ◌∷◌, length, bytes_eq, if◌then◌else◌, Option, Some, None, is_some, Result, Ok, Err}
+use Rattle.std.specs.Prelude.{◌≡◌, ℕ, ◌==◌, Bool, false, not, ◌&&◌, ◌||◌, nat_lt, nat_le, List, [], ◌∷◌, length, bytes_eq, slice_get, if◌then◌else◌, Option, Some, None, is_some, Result, Ok, Err}
 use Rattle.std.specs.List.{list_any, list_all}
 use Rattle.wasm_ops.specs.declared.types.ValType.TheVariants.{I32}
 use Rattle.wasm_ops.specs.declared.types.FuncType.{FuncType}
@@ -13,6 +13,7 @@ use Rattle.wasm_ops.specs.declared.modules.Export.{Export}
 use Rattle.wasm_ops.specs.declared.modules.ElementSegment.{ElementSegment}
 use Rattle.wasm_ops.specs.declared.modules.ByteSegment.{ByteSegment}
 use Rattle.wasm_ops.specs.declared.modules.Body.{Body}
+use Rattle.wasm_ops.specs.WellFormed.{IsWellFormed}
 use Rattle.wasm_meaning.specs.declared.violations.Rule.{Rule}
 use Rattle.wasm_meaning.specs.declared.violations.Rule.TheVariants.{UnknownIndex, DoubleExport, TwoMemories, TwoTables, MemoryLimits, StartType, ConstantType}
 use Rattle.wasm_meaning.specs.declared.violations.Violation.{Violation}
@@ -20,7 +21,7 @@ use Rattle.wasm_meaning.specs.ValidityRules.{rule_number}
 use Rattle.wasm_meaning.specs.ValidityChecks.{Check, in_order, each, each_item, first_rule, broken_at}
 use Rattle.wasm_meaning.specs.ValiditySpaces.{as_table, as_memory, functions, tables, memories, globals, function_type, body_type}
 use Rattle.wasm_meaning.specs.TypingOperands.{Walk, same_type}
-use Rattle.wasm_meaning.specs.Typing.{body_typed, has_any}
+use Rattle.wasm_meaning.specs.Typing.{body_typed, height_of, nest_of}
 
 -- A small check for each kind of item.
 
@@ -119,10 +120,10 @@ unfoldable pub functions_walk : Module → Check
 functions_walk m = each_item (λ before type. function_rule (length m.types) type) m.functions
 
 unfoldable pub tables_walk : Module → Check
-tables_walk m = each_item (λ before limits. table_rule (has_table m.imports || has_any before) limits) m.tables
+tables_walk m = each_item (λ before limits. table_rule (has_table m.imports || nat_lt 0 (length before)) limits) m.tables
 
 unfoldable pub memories_walk : Module → Check
-memories_walk m = each_item (λ before limits. memory_rule (has_memory m.imports || has_any before) limits) m.memories
+memories_walk m = each_item (λ before limits. memory_rule (has_memory m.imports || nat_lt 0 (length before)) limits) m.memories
 
 unfoldable pub globals_walk : Module → Check
 globals_walk m = each_item (λ before global. global_rule global) m.globals
@@ -184,3 +185,26 @@ outside_walk m =
 
 unfoldable pub module_walk : Module → Check
 module_walk m = in_order (outside_walk m ∷ bodies_walk m ∷ [])
+
+-- a module that was read, of which no rule is broken
+pub record IsValid (m : Module) : Type 0 where
+  pub formed : IsWellFormed m
+  pub unbroken : module_walk m ≡ Ok tt
+
+-- What is known of each body of a valid module.
+
+abbrev pub height_in : Module → Option FuncType → Option Body → ℕ
+height_in m (Some type) (Some body) = height_of m type body
+height_in m type body = 0
+
+-- the greatest number of operands before or behind any operator of the body with this number
+abbrev pub body_height : Module → (number : ℕ) → ℕ
+body_height m number = height_in m (body_type m number) (slice_get m.bodies number)
+
+abbrev pub nest_in : Option Body → ℕ
+nest_in (Some body) = nest_of body
+nest_in None = 0
+
+-- the greatest number of blocks that are open at once in it
+abbrev pub body_nest : Module → (number : ℕ) → ℕ
+body_nest m number = nest_in (slice_get m.bodies number)

@@ -1,5 +1,5 @@
 -- A body that is typed leaves its result and nothing else; and a module is valid or breaks one rule first.
-use Rattle.std.proofs.Common.{◌≡◌, ◌⊎◌, inl, inr, ℕ, Bool, true, false, if◌then◌else◌, List, [], ◌∷◌, Option, Some, None, Result, Ok, Err, refl}
+use Rattle.std.proofs.Common.{◌≡◌, ◌⊎◌, inl, inr, ℕ, Bool, true, false, if◌then◌else◌, List, [], ◌∷◌, Option, Some, None, Result, Ok, Err, refl, sym, ◌∙◌}
 use Rattle.wasm_ops.specs.declared.types.ValType.{ValType}
 use Rattle.wasm_ops.specs.declared.modules.Module.{Module}
 use Rattle.wasm_ops.specs.Sequence.{Sequence}
@@ -49,7 +49,7 @@ one_holds m = by_outcome (module_walk m) refl
     by_outcome (Err broken) e = inr (broken, e)
 
 pub never_both : (m : Module) (broken : Broken) → module_walk m ≡ Ok tt → module_walk m ≡ Err broken → ⊥
-never_both m broken valid breaks_one = cc
+never_both m broken valid breaks_one = let both : Ok tt ≡ Err broken = sym valid ∙ breaks_one in cc
 
 pub one_broken : (m : Module) (broken other : Broken) → module_walk m ≡ Err broken → module_walk m ≡ Err other → broken ≡ other
 one_broken m broken other one two = cc

@@ -124,4 +124,5 @@ def main():
         print(f"one body of nop: {len(content)} bytes, {resident_memory(folder, content):.0f} MiB resident")
 
 
-sys.exit(main())
+if __name__ == "__main__":
+    sys.exit(main())

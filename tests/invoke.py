@@ -117,10 +117,14 @@ REFUSED_BODIES = [
     ("03 40 0C 00 0B", 90, 0),
     ("42 00 1A", 90, 0),
     # A missing operand, one operand for two, and operands left over.
-    ("1A", 90, 0),
-    ("41 01 6A 1A", 90, 0),
-    ("41 01", 90, 0),
-    ("00 41 01", 90, 0),
+    ("1A", 32, 0),
+    ("6A", 32, 0),
+    ("41 01 6A 1A", 32, 1),
+    ("41 01", 32, 1),
+    ("00 41 01", 32, 2),
+    # An operand of another type, and an if with a result and no else.
+    ("42 00 45 1A", 31, 1),
+    ("41 01 04 7F 41 07 0B 1A", 35, 3),
     # A float operator, a float constant, and a constant with spare bits that are no copies of the sign.
     ("92", 5, 35),
     ("43 00 00 00 00 1A", 5, 35),

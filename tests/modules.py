@@ -8,7 +8,7 @@ is compared with a reader that is written from the format alone.
 
 Each changed file is one of a few modules with up to three changes: a byte set, put in or taken out, a number made longer, a piece
 doubled, the file cut. A refused file has to be refused with the same number at the same place; any other one has to be
-read, which shows as `module 90 0 0` or as a reply. The changes are the same in each run (SEED), and the summary says how
+read, and is refused with the first rule that it breaks after `module_validator.py`, or shows as `module 90 0 0` or as a reply. The changes are the same in each run (SEED), and the summary says how
 often each number came.
 """
 
@@ -21,6 +21,7 @@ import tempfile
 
 import module_reader
 import module_table
+import module_validator
 
 TOP = os.path.join(os.path.dirname(os.path.abspath(__file__)), "..")
 SCRIPT = os.path.join(TOP, "sledge")
@@ -186,7 +187,14 @@ def note_of(folder, data):
     return done.returncode, done.stderr.decode()
 
 
-def agrees(status, note, refusal):
+def first_broken(data):
+    """The number and the item of the first rule that a module breaks, if it breaks one."""
+    broken = module_validator.violation(module_validator.decode(data))
+    return broken and (broken[0], broken[2])
+
+
+def agrees(status, note, data, refusal):
+    refusal = refusal or first_broken(data)
     if refusal is None:
         return status == 0 or (status, note) == (5, "module 90 0 0\n")
     return (status, note) == (5, f"module {refusal[0]} 0 {refusal[1]}\n")
@@ -204,7 +212,7 @@ def main():
             pass
         for title, data, refusal in tables:
             status, note = note_of(folder, data)
-            if not agrees(status, note, refusal) or module_reader.refusal(data) != refusal:
+            if not agrees(status, note, data, refusal) or module_reader.refusal(data) != refusal:
                 failed += 1
                 print(f"{title}: wanted {refusal}, got status {status} and {note!r}")
         for _ in range(count):
@@ -212,7 +220,7 @@ def main():
             refusal = module_reader.refusal(data)
             seen[refusal[0] if refusal else 0] += 1
             status, note = note_of(folder, data)
-            if not agrees(status, note, refusal):
+            if not agrees(status, note, data, refusal):
                 failed += 1
                 print(f"{data.hex(' ')}: wanted {refusal}, got status {status} and {note!r}")
     print("read: %d; refused: %s" % (seen.pop(0, 0), ", ".join(f"{number} {times} times" for number, times in sorted(seen.items()))))

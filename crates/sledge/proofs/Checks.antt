@@ -9,11 +9,14 @@ use Rattle.wasm_ops.specs.declared.operators.Op.{Op}
 use Rattle.wasm_code.specs.Bodies.{beginning}
 use Rattle.wasm_reader.proofs.ModuleLaws.{whole_module_decided}
 use Rattle.wasm_reader.specs.Modules.{RefusesModule, SpellsModule, most_bytes, whole_module}
+use Rattle.wasm_meaning.specs.Validity.{module_walk}
+use Rattle.wasm_meaning.specs.ValidityChecks.{Check}
+use Rattle.wasm_meaning.specs.declared.violations.Broken.{Broken}
 use Rattle.sledge.proofs.Built.{is_built, not_built_is}
 use Rattle.sledge.proofs.Walking.{IsSteady}
-use Rattle.sledge.specs.BuiltModule.{IsBuilt, IsNotBuilt, built_of}
+use Rattle.sledge.specs.BuiltModule.{IsBuilt, IsInvalid, IsNotBuilt, built_of}
 use Rattle.sledge.specs.CommandLine.{Asked, AsksHelp, AsksVersion, AsksInvoke, InvokeWords}
-use Rattle.sledge.specs.Commands.{body_limit, body_plan, check_body, check_module, module_step, not_built, plan_of, ran, runnable}
+use Rattle.sledge.specs.Commands.{body_limit, body_plan, check_body, check_module, module_step, not_built, plan_of, ran, runnable, validated}
 use Rattle.sledge.specs.Endings.{Ended, module_fault, recording_fault}
 use Rattle.sledge.specs.Execution.{Execution, execution_of}
 use Rattle.sledge.specs.Plans.{Ends, Goes, Plan, Step, Stops, checked_file, go_on, limited}
@@ -53,8 +56,8 @@ limited_front {A} most too_long check whole = at (nat_lt most (length whole)) re
 
 -- The check of a module.
 
--- bytes that spell a module are checked by its operators
-pub check_spelt : (bytes : List ℕ) (parts : Module) → SpellsModule bytes parts → check_module bytes ≡ runnable (built_of parts)
+-- bytes that spell a module are checked by its rules, and then by its operators
+pub check_spelt : (bytes : List ℕ) (parts : Module) → SpellsModule bytes parts → check_module bytes ≡ validated (module_walk parts) parts
 unfolding check_module
 check_spelt bytes parts s =
     ap (λ b. cond b (Stops (module_fault 0 21 0)) (module_step (whole_module.read (beginning bytes)))) (is_short most_bytes (length bytes) s.small)
@@ -71,10 +74,15 @@ check_refused bytes fault (inr item) =
     ∙ ap module_step ((whole_module_decided.decides (beginning bytes)).only_refused fault item.refused)
 
 pub check_built : (bytes : List ℕ) (ops : List Op) → IsBuilt bytes ops → check_module bytes ≡ Goes ops
-check_built bytes ops b = check_spelt bytes b.parts b.spelt ∙ ap runnable (is_built b.parts ops b.built)
+check_built bytes ops b =
+    check_spelt bytes b.parts b.spelt ∙ ap (λ (c : Check). validated c b.parts) b.valid ∙ ap runnable (is_built b.parts ops b.built)
+
+pub check_invalid : (bytes : List ℕ) (broken : Broken) → IsInvalid bytes broken → check_module bytes ≡ Stops (module_fault 0 broken.number broken.item)
+check_invalid bytes broken n = check_spelt bytes n.parts n.spelt ∙ ap (λ (c : Check). validated c n.parts) n.broken_first
 
 pub check_not_built : (bytes : List ℕ) → IsNotBuilt bytes → check_module bytes ≡ Stops not_built
-check_not_built bytes n = check_spelt bytes n.parts n.spelt ∙ ap runnable (not_built_is n.parts n.other)
+check_not_built bytes n =
+    check_spelt bytes n.parts n.spelt ∙ ap (λ (c : Check). validated c n.parts) n.valid ∙ ap runnable (not_built_is n.parts n.other)
 
 module_front : (whole : List ℕ) → check_module (take (most_bytes + 1) whole) ≡ check_module whole
 unfolding check_module
@@ -113,12 +121,16 @@ runnable_well : (built : Option (List Op)) → StopsWell (runnable built)
 runnable_well None = tt
 runnable_well (Some ops) = tt
 
+validated_well : (check : Check) (parts : Module) → StopsWell (validated check parts)
+validated_well (Ok passed) parts = runnable_well (built_of parts)
+validated_well (Err broken) parts = tt
+
 module_well : (bytes : List ℕ) → StopsWell (check_module bytes)
 unfolding check_module
 module_well bytes = limited_well (nat_lt most_bytes (length bytes)) (module_fault 0 21 0) (module_step (whole_module.read (beginning bytes))) tt (at (whole_module.read (beginning bytes)))
   where
     at : (read : _) → StopsWell (module_step read)
-    at (Ok read) = runnable_well (built_of read.0)
+    at (Ok read) = validated_well (module_walk read.0) read.0
     at (Err fault) = tt
 
 ran_steady : (run : Option Execution) → IsSteady (Ends (ran run))

@@ -1,15 +1,18 @@
 -- How an `invoke` ends, by what its files spell.
-use Rattle.std.proofs.Common.{◌≡◌, ◌≢◌, ℕ, ◌<◌, ◌≤◌, Bool, true, false, if◌then◌else◌, nat_lt, List, [], length, Option, None, Some, inl, inr, refl, sym, ap, ◌∙◌}
+use Rattle.std.proofs.Common.{◌≡◌, ◌≢◌, ℕ, ◌<◌, ◌≤◌, Bool, true, false, if◌then◌else◌, nat_lt, List, [], length, Option, None, Some, Ok, Err, inl, inr, refl, sym, ap, ◌∙◌}
 use Rattle.outside.specs.Library.{Files}
 use Rattle.wasm_ops.specs.declared.faults.Fault.{Fault}
 use Rattle.wasm_ops.specs.declared.modules.Module.{Module}
 use Rattle.wasm_ops.specs.declared.operators.Op.{Op}
 use Rattle.wasm_reader.proofs.ModuleLaws.{either}
 use Rattle.wasm_reader.specs.Modules.{RefusesModule, SpellsModule}
+use Rattle.wasm_meaning.specs.Validity.{module_walk}
+use Rattle.wasm_meaning.specs.ValidityChecks.{Check}
+use Rattle.wasm_meaning.specs.declared.violations.Broken.{Broken}
 use Rattle.sledge.proofs.Built.{built_is, is_not_built}
-use Rattle.sledge.proofs.Checks.{check_built, check_long, check_not_built, check_refused, check_short, fits_limit}
+use Rattle.sledge.proofs.Checks.{check_built, check_invalid, check_long, check_not_built, check_refused, check_short, fits_limit}
 use Rattle.sledge.proofs.Safety.{typed_never_stuck}
-use Rattle.sledge.specs.BuiltModule.{IsBuilt, IsNotBuilt, built_of}
+use Rattle.sledge.specs.BuiltModule.{IsBuilt, IsInvalid, IsNotBuilt, built_of}
 use Rattle.sledge.specs.CommandLine.{Asked, AsksInvoke, InvokeWords, command_of}
 use Rattle.sledge.specs.Commands.{body_limit, body_plan, check_body, check_module, ending, invoke_plan, not_built, plan_of, ran, run_on}
 use Rattle.sledge.specs.Endings.{Ended, module_fault, not_read, recording_fault, status_of}
@@ -47,6 +50,10 @@ module_missing words files i is m = asks words files i is ∙ from_file files i 
 pub module_refused : (words : List (List ℕ)) (files : Files) (i : InvokeWords) (file : List ℕ) (fault : Fault) → command_of words ≡ Some (AsksInvoke i) → files i.module_name ≡ Some file → RefusesModule file fault
     → ending words files ≡ module_fault 0 fault.number fault.place
 module_refused words files i file fault is m r = asks words files i is ∙ from_check files i file _ m (check_refused file fault r)
+
+pub module_invalid : (words : List (List ℕ)) (files : Files) (i : InvokeWords) (file : List ℕ) (broken : Broken) → command_of words ≡ Some (AsksInvoke i) → files i.module_name ≡ Some file → IsInvalid file broken
+    → ending words files ≡ module_fault 0 broken.number broken.item
+module_invalid words files i file broken is m n = asks words files i is ∙ from_check files i file _ m (check_invalid file broken n)
 
 pub module_not_built : (words : List (List ℕ)) (files : Files) (i : InvokeWords) (file : List ℕ) → command_of words ≡ Some (AsksInvoke i) → files i.module_name ≡ Some file → IsNotBuilt file
     → ending words files ≡ not_built
@@ -104,13 +111,18 @@ with_body words files i file ops (Some body) is m b h done = at (nat_lt body_lim
 
 with_module : (words : List (List ℕ)) (files : Files) (i : InvokeWords) (file : List ℕ) (parts : Module) → command_of words ≡ Some (AsksInvoke i) → files i.module_name ≡ Some file → SpellsModule file parts
     → status_of (ending words files) ≡ status.Ok → AnswersInvoke i files (ending words files)
-with_module words files i file parts is m s done = at (built_of parts) refl
+with_module words files i file parts is m s done = by_rules (module_walk parts) refl
   where
-    at : (ops : Option (List Op)) → built_of parts ≡ ops → AnswersInvoke i files (ending words files)
-    at None e =
-        absurd (not_done _ _ (module_not_built words files i file is m (record { parts = parts; spelt = s; other = is_not_built parts e })) (λ bad. cc) done)
-    at (Some ops) e =
-        with_body words files i file ops (files i.body_name) is m (record { parts = parts; spelt = s; built = built_is parts ops e }) refl done
+    at : module_walk parts ≡ Ok tt → (ops : Option (List Op)) → built_of parts ≡ ops → AnswersInvoke i files (ending words files)
+    at v None e =
+        absurd (not_done _ _ (module_not_built words files i file is m (record { parts = parts; spelt = s; valid = v; other = is_not_built parts e })) (λ bad. cc) done)
+    at v (Some ops) e =
+        with_body words files i file ops (files i.body_name) is m (record { parts = parts; spelt = s; valid = v; built = built_is parts ops e }) refl done
+
+    by_rules : (check : Check) → module_walk parts ≡ check → AnswersInvoke i files (ending words files)
+    by_rules (Ok passed) v = at v (built_of parts) refl
+    by_rules (Err broken) v =
+        absurd (not_done _ _ (module_invalid words files i file broken is m (record { parts = parts; spelt = s; broken_first = v })) (λ bad. cc) done)
 
 with_file : (words : List (List ℕ)) (files : Files) (i : InvokeWords) (file : Option (List ℕ)) → command_of words ≡ Some (AsksInvoke i) → files i.module_name ≡ file
     → status_of (ending words files) ≡ status.Ok → AnswersInvoke i files (ending words files)

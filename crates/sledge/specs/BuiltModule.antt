@@ -1,6 +1,6 @@
 -- The modules that are run so far: one function of no parameters, no result and no locals, exported as `_start`
 -- (WebAssembly Core 1.0, section 2.5).
-use Rattle.std.specs.Prelude.{◌≡◌, ◌==◌, ◌⊎◌, ◌&&◌, ℕ, Bool, true, false, if◌then◌else◌, List, [], ◌∷◌, ◌++◌, codes, Option, None, Some}
+use Rattle.std.specs.Prelude.{◌≡◌, ◌==◌, ◌⊎◌, ◌&&◌, ℕ, Bool, true, false, if◌then◌else◌, List, [], ◌∷◌, ◌++◌, codes, Option, None, Some, Ok, Err}
 use Rattle.std.specs.List.{AllByRecursion, list_all}
 use Rattle.std.specs.Option.{option_map}
 use Rattle.std.specs.Str.{bytes_eq}
@@ -10,6 +10,8 @@ use Rattle.wasm_ops.specs.declared.modules.Module.{Module}
 use Rattle.wasm_ops.specs.declared.operators.Op.{Op}
 use Rattle.wasm_ops.specs.declared.operators.Op.TheVariants.{Unreachable, Nop, End, Drop, ConstI32, Binary}
 use Rattle.wasm_ops.specs.declared.types.FuncType.{FuncType}
+use Rattle.wasm_meaning.specs.Validity.{module_walk}
+use Rattle.wasm_meaning.specs.declared.violations.Broken.{Broken}
 use Rattle.wasm_reader.specs.Modules.{SpellsModule}
 use Rattle.sledge.specs.Typing.{IsTyped, OperandTypes, no_types, typed}
 
@@ -62,16 +64,24 @@ pub record IsBuiltModule (parts : Module) (ops : List Op) : Type 0 where
   pub built : AllByRecursion IsBuiltOperator ops
   pub typed : IsTyped ops
 
--- the bytes of a file spell a module that is run so far, and its body has these operators
+-- the bytes of a file spell a valid module that is run so far, and its body has these operators
 pub record IsBuilt (bytes : List ℕ) (ops : List Op) : Type 0 where
   pub parts : Module
   pub spelt : SpellsModule bytes parts
+  pub valid : module_walk parts ≡ Ok tt
   pub built : IsBuiltModule parts ops
 
--- the bytes spell a module, and it is none of those that are run so far
+-- the bytes spell a module that breaks a rule, and this is the first
+pub record IsInvalid (bytes : List ℕ) (broken : Broken) : Type 0 where
+  pub parts : Module
+  pub spelt : SpellsModule bytes parts
+  pub broken_first : module_walk parts ≡ Err broken
+
+-- the bytes spell a valid module, and it is none of those that are run so far
 pub record IsNotBuilt (bytes : List ℕ) : Type 0 where
   pub parts : Module
   pub spelt : SpellsModule bytes parts
+  pub valid : module_walk parts ≡ Ok tt
   pub other : (ops : List Op) → IsBuiltModule parts ops → ⊥
 
 -- The same as a function: the operators of a module that is run so far.

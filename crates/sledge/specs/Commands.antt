@@ -5,6 +5,8 @@ use Rattle.wasm_ops.specs.declared.modules.Module.{Module}
 use Rattle.wasm_ops.specs.declared.operators.Op.{Op}
 use Rattle.wasm_code.specs.Bodies.{beginning}
 use Rattle.wasm_code.specs.Reading.{Read}
+use Rattle.wasm_meaning.specs.Validity.{module_walk}
+use Rattle.wasm_meaning.specs.ValidityChecks.{Check}
 use Rattle.wasm_reader.specs.Modules.{most_bytes, whole_module}
 use Rattle.sledge.specs.BuiltModule.{built_of}
 use Rattle.sledge.specs.CommandLine.{Asked, AsksHelp, AsksVersion, AsksInvoke, InvokeWords, command_of}
@@ -22,12 +24,17 @@ abbrev pub runnable : Option (List Op) → Step (List Op)
 runnable (Some ops) = Goes ops
 runnable None = Stops not_built
 
+-- a module that is valid, or breaks a rule first
+abbrev pub validated : Check → Module → Step (List Op)
+validated (Ok passed) parts = runnable (built_of parts)
+validated (Err broken) parts = Stops (module_fault 0 broken.number broken.item)
+
 -- what was read is a module, or has a fault
 abbrev pub module_step : Read Module → Step (List Op)
-module_step (Ok read) = runnable (built_of read.0)
+module_step (Ok read) = validated (module_walk read.0) read.0
 module_step (Err fault) = Stops (module_fault 0 fault.number fault.place)
 
--- a file as a module: it has at most 4 MiB, spells a module, and is one of those that are run so far
+-- a file as a module: it has at most 4 MiB, spells a module that is valid, and is one of those that are run so far
 unfoldable pub check_module : List ℕ → Step (List Op)
 check_module bytes = limited most_bytes (module_fault 0 21 0) (λ all. module_step (whole_module.read (beginning all))) bytes
 

@@ -4,8 +4,9 @@ ghost use Rattle.std.specs.Prelude.{◌≡◌, ◌≢◌, ◌+◌, ◌<◌, ◌�
 ghost use Rattle.outside.specs.Library.{Files};
 ghost use Rattle.wasm_ops.specs.declared.faults.Fault.{Fault};
 ghost use Rattle.wasm_ops.specs.declared.operators.Op.{Op};
+ghost use Rattle.wasm_meaning.specs.declared.violations.Broken.{Broken};
 ghost use Rattle.wasm_reader.specs.Modules.{RefusesModule};
-ghost use Rattle.sledge.specs.BuiltModule.{IsBuilt, IsNotBuilt};
+ghost use Rattle.sledge.specs.BuiltModule.{IsBuilt, IsInvalid, IsNotBuilt};
 ghost use Rattle.sledge.specs.CommandLine.{AsksHelp, AsksInvoke, AsksVersion, InvokeWords, command_of};
 ghost use Rattle.sledge.specs.Commands.{body_limit, ending};
 ghost use Rattle.sledge.specs.Endings.{module_fault, not_read, recording_fault, shown, status_of, usage};
@@ -37,8 +38,8 @@ pub fn shown_endings()
 /// How an `invoke` ends over files, by what their bytes spell. One of the cases holds of any files,
 /// so there is no other ending.
 pub fn invoke_endings()
-    // The module's file is missing; it is refused by its first fault; it spells a module that is
-    // none of those that are run so far. What the body's file is does not matter.
+    // The module's file is missing; it is refused by its first fault; it spells a module that
+    // breaks a rule; it spells a valid one that is none of those that are run so far. What the body's file is does not matter.
     ensures module_missing { (words : List (List ℕ)) (files : Files) (i : InvokeWords)
         → command_of words ≡ Some (AsksInvoke i) → files i.module_name ≡ None
         → ending words files ≡ not_read i.module_name }
@@ -47,6 +48,11 @@ pub fn invoke_endings()
         → command_of words ≡ Some (AsksInvoke i) → files i.module_name ≡ Some file
         → RefusesModule file fault
         → ending words files ≡ module_fault 0 fault.number fault.place }
+    ensures module_invalid { (words : List (List ℕ)) (files : Files)
+        (i : InvokeWords) (file : List ℕ) (broken : Broken)
+        → command_of words ≡ Some (AsksInvoke i) → files i.module_name ≡ Some file
+        → IsInvalid file broken
+        → ending words files ≡ module_fault 0 broken.number broken.item }
     ensures not_built { (words : List (List ℕ)) (files : Files) (i : InvokeWords) (file : List ℕ)
         → command_of words ≡ Some (AsksInvoke i) → files i.module_name ≡ Some file → IsNotBuilt file
         → ending words files ≡ module_fault 0 90 0 }

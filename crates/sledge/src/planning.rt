@@ -2,9 +2,11 @@
 
 ghost use Rattle.std.specs.Prelude.{◌≡◌, ◌≤◌, map, Some, IfOk, string_bytes};
 ghost use Rattle.std.specs.List.{AllByRecursion};
-ghost use Rattle.sledge.specs.BuiltModule.{IsBuiltOperator};
+ghost use Rattle.wasm_meaning.specs.Validity.{module_walk};
+ghost use Rattle.wasm_ops.specs.WellFormed.{IsWellFormed};
+ghost use Rattle.sledge.specs.BuiltModule.{IsBuiltOperator, built_of};
 ghost use Rattle.sledge.specs.CommandLine.{invoke_view};
-ghost use Rattle.sledge.specs.Commands.{body_end, body_plan, check_body, check_module, invoke_plan, plan_for};
+ghost use Rattle.sledge.specs.Commands.{body_end, body_plan, check_body, check_module, invoke_plan, plan_for, runnable, validated};
 ghost use Rattle.sledge.specs.Endings.{due};
 ghost use Rattle.sledge.specs.Plans.{Comes, go_on};
 ghost use Rattle.sledge.specs.Typing.{IsTyped};
@@ -16,8 +18,9 @@ use crate::machine::execute;
 use crate::texts::{HELP, VERSION};
 use outside::{Fetch, Library};
 use std::alloc::{AllocError, Global};
-use wasm_ops::Op;
+use wasm_ops::{Module, Op};
 use wasm_reader::{MOST_BYTES, ReadFault, read_module};
+use wasm_validate::{Valid, ValidFault, validate};
 
 /// The most bytes of a request body.
 const BODY_LIMIT: u64 = 1 << 20;
@@ -77,12 +80,49 @@ fn from_bytes<L: Library>(
     ensures later { (L.state lib.old).faults ≤ (L.state lib.new).faults }
 {
     match read_module(alloc, bytes) {
-        Ok(module) => match built_operators(&module) {
-            Some(ops) => from_body(alloc, ops, invoke, lib),
-            None => Ending::module_fault(alloc, 0, NOT_BUILT, 0),
-        },
+        Ok(parts) => from_parts(alloc, parts, invoke, lib),
         Err(ReadFault::Bytes(fault)) => Ending::module_fault(alloc, 0, fault.number, fault.place),
         Err(ReadFault::NoMemory) => Err(AllocError),
+    }
+}
+
+/// The ending of an `invoke` once its module is read.
+fn from_parts<L: Library>(
+    alloc: Global,
+    parts: Module,
+    invoke: Invoke<'_>,
+    lib: &mut L,
+) -> Result<Ending, AllocError>
+    requires formed { IsWellFormed parts }
+    ensures comes { IfOk result (Comes L.gave (go_on (body_plan (invoke_view invoke.entry))
+        (validated (module_walk parts) parts)) lib.old lib.new) }
+    ensures same { (L.state lib.new).held ≡ (L.state lib.old).held }
+    ensures later { (L.state lib.old).faults ≤ (L.state lib.new).faults }
+{
+    match validate(alloc, parts) {
+        Ok(valid) => from_valid(alloc, &valid, invoke, lib),
+        Err(ValidFault::Rule(broken)) => {
+            Ending::module_fault(alloc, 0, broken.number, broken.item)
+        }
+        Err(ValidFault::NoMemory) => Err(AllocError),
+    }
+}
+
+/// The ending of an `invoke` once its module is known to be valid.
+fn from_valid<L: Library>(
+    alloc: Global,
+    valid: &Valid,
+    invoke: Invoke<'_>,
+    lib: &mut L,
+) -> Result<Ending, AllocError>
+    ensures comes { IfOk result (Comes L.gave (go_on (body_plan (invoke_view invoke.entry))
+        (runnable (built_of valid.now))) lib.old lib.new) }
+    ensures same { (L.state lib.new).held ≡ (L.state lib.old).held }
+    ensures later { (L.state lib.old).faults ≤ (L.state lib.new).faults }
+{
+    match built_operators(valid.module()) {
+        Some(ops) => from_body(alloc, ops, invoke, lib),
+        None => Ending::module_fault(alloc, 0, NOT_BUILT, 0),
     }
 }
 

@@ -1,6 +1,6 @@
 use Rattle.std.proofs.Common.{rules, sym, subst}
 use Rattle.std.proofs.lemmas.Result.{IfOk-weaker}
-use Rattle.sledge.proofs.Checks.{check_built, check_not_built, check_refused}
+use Rattle.sledge.proofs.Checks.{check_spelt, check_refused}
 use Rattle.sledge.proofs.Walking.{comes_end}
 use Rattle.sledge.specs.CommandLine.{invoke_view}
 use Rattle.sledge.specs.Commands.{body_plan}
@@ -9,23 +9,16 @@ use Rattle.sledge.proofs.planning.from_bytes.Goals as goal
 
 -- what the check of the bytes comes to is what is done here
 
-pub returns-in-Some-clause-comes : goal.returns-in-Some-clause-comes
-returns-in-Some-clause-comes g c =
-    IfOk-weaker c.from_body.result _ _
-    (λ e p. subst (λ step. Comes g.L.Library.gave (go_on (body_plan (invoke_view c.args.invoke)) step) c.args.lib.now c.from_body.new.lib e)
-    (sym (check_built c.args.bytes.now c.in-Some.ops.now (record { parts = c.in-Ok.module; spelt = c.in-Ok.ensures.found; built = c.in-Some.ensures.found }))) p)
-    c.from_body.ensures.comes
-
 pub returns-in-Ok-clause-comes : goal.returns-in-Ok-clause-comes
 returns-in-Ok-clause-comes g c =
-    IfOk-weaker c.module_fault.result _ _
-    (λ e p. subst (λ step. Comes g.L.Library.gave (go_on (body_plan (invoke_view c.args.invoke)) step) c.args.lib.now c.args.lib.now e)
-    (sym (check_not_built c.args.bytes.now (record { parts = c.in-Ok.module; spelt = c.in-Ok.ensures.found; other = c.in-None.ensures.only }))) (comes_end _ _ _ e p))
-    c.module_fault.ensures
+    IfOk-weaker c.from_parts.result _ _
+    (λ e p. subst (λ step. Comes g.L.Library.gave (go_on (body_plan (invoke_view c.args.invoke)) step) c.args.lib.now c.from_parts.new.lib e)
+    (sym (check_spelt c.args.bytes.now c.in-Ok.parts c.in-Ok.ensures.found)) p)
+    c.from_parts.ensures.comes
 
 pub returns-in-Err-Bytes-clause-comes : goal.returns-in-Err-Bytes-clause-comes
 returns-in-Err-Bytes-clause-comes g c =
-    IfOk-weaker c.module_fault-in-Err-Bytes.result _ _
+    IfOk-weaker c.module_fault.result _ _
     (λ e p. subst (λ step. Comes g.L.Library.gave (go_on (body_plan (invoke_view c.args.invoke)) step) c.args.lib.now c.args.lib.now e)
     (sym (check_refused c.args.bytes.now c.in-Err-Bytes.fault (search rules))) (comes_end _ _ _ e p))
-    c.module_fault-in-Err-Bytes.ensures
+    c.module_fault.ensures

@@ -1,0 +1,11 @@
+//! Memory, and all else that a running function has.
+//!
+//! A `Strip` is the allocation behind a linear memory.
+//! Every access is exact on the memory as a list of bytes (WebAssembly Core 1.0, section 4.2.8): one that leaves it is refused and changes nothing.
+//! It stands on `wasm_ops` for the limits and on `wasm_meaning` for what a number in bytes and a memory are.
+#![tactic(auto)]
+
+mod linear_memory;
+mod strips;
+
+pub use strips::Strip;

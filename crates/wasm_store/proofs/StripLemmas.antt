@@ -131,6 +131,6 @@ pub memory-cleared : (used : ℕ) (strip : List ℕ) (seen : Memory) → memory_
 memory-cleared used strip seen same held =
     let long : length (zeros used ++ drop used strip) ≡ length strip = ap length (cleared used strip held) ∙ length-replicate {A = ℕ} (length strip) 0 in
     subst
-      (λ (m : Memory). memory_of 0 (zeros used ++ drop used strip) ≡ record m { bytes = [] })
-      same
-      (ap (λ (n : ℕ). record { bytes = []; pages = n / page }) long)
+    (λ (m : Memory). memory_of 0 (zeros used ++ drop used strip) ≡ record m { bytes = [] })
+    same
+    (ap (λ (n : ℕ). record { bytes = []; pages = n / page }) long)

@@ -1,1 +1,4 @@
+pub mod Calls
 pub mod Memory
+pub mod Stacks
+pub mod View

@@ -5,7 +5,19 @@
 //! It stands on `wasm_ops` for the limits and on `wasm_meaning` for what a number in bytes and a memory are.
 #![tactic(auto)]
 
+mod calls;
+mod labels;
+pub mod laws;
 mod linear_memory;
+mod reserved;
+mod stacks;
 mod strips;
+mod vessel;
 
+pub use calls::Frame;
+pub use labels::Label;
 pub use strips::Strip;
+pub use vessel::Vessel;
+
+#[cfg(test)]
+mod tests;

@@ -1,9 +1,9 @@
 //! A linear memory: the part of a strip that is in use.
-ghost use Rattle.std.specs.Prelude.{◌≡◌, ℕ, ◌+◌, ◌-◌, ◌*◌, ◌^◌, ◌<◌, ◌≤◌, ◌++◌, [], length, if◌then◌else◌, option_map, unwrap_or, IfSome, nat_le, Some, None};
+ghost use Rattle.std.specs.Prelude.{◌≡◌, ℕ, ◌+◌, ◌-◌, ◌*◌, ◌/◌, ◌^◌, ◌<◌, ◌≤◌, ◌++◌, [], length, if◌then◌else◌, option_map, unwrap_or, IfSome, nat_le, Some, None};
 ghost use Rattle.wasm_meaning.specs.Bytes.{page, zeros, lies_in, bytes_at, with_bytes, loaded, stored, size_of, grown};
 ghost use Rattle.wasm_store.specs.Memory.{IsWidth, laid};
 
-use crate::strips::{Strip, PAGE};
+use crate::strips::{PAGE, Strip};
 use std::marker::Model;
 
 /// The memory of a running function. Contracts see the bytes in use and the pages of the strip behind them; the rest of the strip is zero.
@@ -30,7 +30,7 @@ impl LinearMemory {
     pub fn new(strip: Strip) -> LinearMemory
         requires { strip ≡ zeros (length strip) }
         ensures bytes { result.bytes ≡ [] }
-        ensures pages { result.pages * page ≡ length strip }
+        ensures pages { result.pages ≡ length strip / page }
     {
         let _pages = strip.pages();
         LinearMemory { strip, size: 0 }

@@ -1,2 +1,4 @@
 pub mod Reply
 pub mod Reported
+pub mod Views
+pub mod Searches

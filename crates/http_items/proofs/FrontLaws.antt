@@ -118,3 +118,13 @@ no_head_without_feed held taken none no_feed = elim (none_or_some (head_in (held
       let bad : ⊥ = cc (feed, no_feed) in
       absurd bad
 ]
+
+-- there is none in front of no bytes
+pub head_in_nothing : head_in [] ≡ None
+head_in_nothing = elim (none_or_some (head_in [])) [
+  | inl none ↦ none
+  | inr found ↦
+      let sizes = ap (λ (t : List ℕ). length t) (head_in_text [] found.0.0 found.0.1 found.1) ∙ length-append (print_request found.0.0) found.0.1 in
+      let some = head_not_empty found.0.0 in
+      absurd (omega arith)
+]

@@ -8,7 +8,7 @@ use Rattle.http_items.specs.Refusals.{number_of}
 use Rattle.http_items.specs.Heads.{head_in, most_head}
 use Rattle.http_items.specs.Headings.{heading_of, Due, due_to_head, Opening, Refused, Awaits, opening_of}
 use Rattle.http_items.specs.Items.{Heard, Faulty, keeps, heard, Front, Nothing, Gives, are_pairs, gathered, opened, front, onward, items}
-use Rattle.http_items.specs.Standings.{Standing, Reading, Gathering, Over, Failed, items_from, Goes, IsQuiet}
+use Rattle.http_items.specs.Standings.{Standing, Reading, Gathering, Over, Failed, behind_item, items_from, Goes, Opens, IsQuiet}
 use Rattle.http_items.proofs.HeadLaws.{at_false}
 use Rattle.http_items.proofs.FrontLaws.{head_in_more, head_in_at_limit}
 use Rattle.http_items.proofs.ItemLaws.{items_step, front_without, front_behind, no_head_full, gathered_more}
@@ -85,17 +85,34 @@ reads_head held rest h behind due size found is = record {
       ∙ ap (λ (o : Opening). opened o (behind ++ more) ended) is);
 }
 
+-- a head, and what came of the bytes behind it
+pub reads_opening : (held rest : List ℕ) (h : RequestHead) (behind : List ℕ) (o : Opening) (given : List Heard) (new : Standing) (left : List ℕ) →
+    head_in (held ++ rest) ≡ Some (h, behind) → opening_of (heading_of h) ≡ o → Opens o behind given new left →
+    Goes (Reading held) rest given new left
+reads_opening held rest h behind (Refused refusal head) given new left found is opens = record {
+  same = λ more ended.
+      (reads_refused held rest h behind refusal head left found is).same more ended
+      ∙ sym (ap (λ (t : List Heard). t ++ items_from new (left ++ more) ended) opens.0
+      ∙ ap (λ (s : Standing). (Faulty (number_of refusal) head false ∷ []) ++ items_from s (left ++ more) ended) opens.1);
+}
+reads_opening held rest h behind (Awaits due size) given new left found is opens =
+    goes_on (Reading held) (Gathering due size []) new rest behind left [] given (reads_head held rest h behind due size found is) opens
+
+-- so many bytes that no head can come, and others behind them
+pub reads_beyond : (held taken beyond : List ℕ) (left : List ℕ) → head_in (held ++ taken) ≡ None → most_head ≤ length (held ++ taken) →
+    Goes (Reading held) (taken ++ beyond) (Faulty (number_of BadHead) false false ∷ []) Over left
+reads_beyond held taken beyond left none full =
+    let regroup : (held ++ taken) ++ beyond ≡ held ++ (taken ++ beyond) = append_assoc held taken beyond in
+    reads_full held (taken ++ beyond) left
+    (ap head_in (sym regroup) ∙ head_in_at_limit (held ++ taken) beyond full none)
+    (omega (arith, ap (λ (t : List ℕ). length t) regroup, length-append (held ++ taken) beyond))
+
 -- bytes of a body whose end has not come
 pub gathers_on : (due : Due) (size : ℕ) (got rest : List ℕ) → Goes (Gathering due size got) rest [] (Gathering due size (got ++ rest)) []
 gathers_on due size got rest = record {
   same = λ more ended.
       ap (λ (t : List ℕ). onward (gathered due size t ended) (λ r. items r ended)) (sym (append_assoc got rest more));
 }
-
--- where the connection stands behind an item
-abbrev pub behind_item : (keep : Bool) → Standing
-behind_item true = Reading []
-behind_item false = Over
 
 items_behind : (keep : Bool) (more : List ℕ) (ended : Bool) → (if keep then items more ended else []) ≡ items_from (behind_item keep) more ended
 items_behind true more ended = refl

@@ -1,5 +1,5 @@
 -- What becomes of a request by its heading alone: its method, its target, its version and its lines.
-use Rattle.std.specs.Prelude.{ℕ, Bool, true, false, not, ◌&&◌, ◌||◌, List, [], ◌∷◌, map, Option, Some, None, Result, Ok, Err, codes, if◌then◌else◌, ◌==◌, nat_le, bytes_eq}
+use Rattle.std.specs.Prelude.{ℕ, Bool, true, false, not, ◌&&◌, ◌||◌, List, [], ◌∷◌, length, map, Option, Some, None, Result, Ok, Err, codes, if◌then◌else◌, ◌==◌, nat_lt, nat_le, bytes_eq}
 use Rattle.std.specs.List.{list_all}
 use Rattle.std.specs.Char.{is_ascii_digit}
 use Rattle.std.specs.Str.Parse.{digits_value}
@@ -56,14 +56,15 @@ most_body = 1048576
 
 -- one or more digits
 abbrev pub is_number : List ℕ → Bool
-is_number [] = false
-is_number (b ∷ digits) = list_all is_ascii_digit (b ∷ digits)
+is_number digits = nat_lt 0 (length digits) && list_all is_ascii_digit digits
+
+-- a size that is not too large
+abbrev pub size_within : ℕ → Result ℕ Refusal
+size_within size = if nat_le size most_body then Ok size else Err TooLarge
 
 -- the size that a Content-Length tells
 abbrev pub told_size : List ℕ → Result ℕ Refusal
-told_size value =
-    if is_number value then (if nat_le (digits_value 10 value) most_body then Ok (digits_value 10 value) else Err TooLarge)
-    else Err BadLength
+told_size value = if is_number value then size_within (digits_value 10 value) else Err BadLength
 
 -- without one the body is empty
 abbrev pub size_of : Occurrence → Result ℕ Refusal
@@ -123,6 +124,11 @@ due_of g = due_by_path (path_of g.target) g
 abbrev pub due_to_head : Due → Bool
 due_to_head (Serve m path keep) = is_head m
 due_to_head (Refuse refusal head keep) = head
+
+-- the connection is kept after what is due
+abbrev pub due_keeps : Due → Bool
+due_keeps (Serve m path keep) = keep
+due_keeps (Refuse refusal head keep) = keep
 
 -- what a head opens: a refusal at once, or a body, and then what is due
 pub data Opening : Type 0 where

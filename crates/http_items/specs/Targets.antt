@@ -1,5 +1,5 @@
 -- The path that a request's target names (RFC 9112 section 3.2, in origin-form and absolute-form; RFC 9110 section 4.2.1).
-use Rattle.std.specs.Prelude.{ℕ, Bool, not, ◌&&◌, List, [], ◌∷◌, take, drop, Option, Some, None, option_and_then, codes, if◌then◌else◌, ◌==◌, nat_le, take_while}
+use Rattle.std.specs.Prelude.{ℕ, Bool, not, ◌&&◌, List, [], ◌∷◌, length, take, drop, Option, Some, None, option_and_then, codes, if◌then◌else◌, ◌==◌, nat_le, take_while}
 use Rattle.std.specs.List.{list_all, prefix_len}
 use Rattle.http1.specs.Text.{eq_ignore_case}
 
@@ -30,7 +30,9 @@ behind_host t = drop (prefix_len is_of_host t) t
 
 -- the bytes behind `http://`, in any case
 abbrev pub behind_scheme : List ℕ → Option (List ℕ)
-behind_scheme t = if eq_ignore_case (take 7 t) (codes "http://") then Some (drop 7 t) else None
+behind_scheme t =
+    if nat_le 7 (length t) then (if eq_ignore_case (take 7 t) (codes "http://") then Some (drop 7 t) else None)
+    else None
 
 -- an empty path is that of the root
 abbrev pub rooted : List ℕ → List ℕ

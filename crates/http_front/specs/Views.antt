@@ -7,7 +7,6 @@ use Rattle.http_items.specs.Heads.{head_in}
 use Rattle.http_items.specs.Headings as definitions
 use Rattle.http_items.specs.Items.{Heard, Asked, Faulty}
 use Rattle.http_items.specs.Standings as standings
-use Rattle.http_front.specs.declared.front.Front.{Front}
 use Rattle.http_front.specs.declared.headings.Due.{Due}
 use Rattle.http_front.specs.declared.headings.Due.TheVariants as due
 use Rattle.http_front.specs.declared.parsed.Heading.{Heading}
@@ -62,9 +61,6 @@ standing_of (state.Reading held) = standings.Reading held.bytes.items
 standing_of (state.Gathering body) = standings.Gathering (due_seen body.due) body.size body.got.items
 standing_of state.Over = standings.Over
 standing_of state.Failed = standings.Failed
-
-abbrev pub standing : Front → standings.Standing
-standing front = standing_of front.state
 
 -- the items of a step, of which there is at most one
 abbrev pub given : Option Item → List Heard

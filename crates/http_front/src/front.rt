@@ -4,7 +4,7 @@ ghost use Rattle.http_items.specs.Heads.{head_in};
 ghost use Rattle.http_items.specs.Items.{Faulty, are_pairs};
 ghost use Rattle.http_items.specs.Standings as standings;
 ghost use Rattle.http_items.specs.Standings.{Goes, Opens, Waits, items_from};
-ghost use Rattle.http_front.specs.Views.{heard_of, due_seen, opening_seen, standing_of, standing, given};
+ghost use Rattle.http_front.specs.Views.{heard_of, due_seen, opening_seen, standing_of, given};
 
 use crate::headings::{Due, Opening};
 use crate::heads::{MOST_HEAD, Search, find_head};
@@ -12,13 +12,25 @@ use crate::items::Item;
 use crate::states::{Body, Held, State};
 use http_items::Refusal;
 use std::alloc::{AllocError, Global};
+use std::marker::Model;
 use std::mem;
 
 /// The side of a connection that its bytes come in at (RFC 9112 sections 2.2, 6 and 9.3).
+///
+/// Contracts see it as where the connection stands between two pieces.
 #[derive(Drop)]
 pub struct Front {
     alloc: Global,
     state: State,
+}
+
+impl Model for Front {
+    ghost use Rattle.http_items.specs.Standings.{Standing};
+    ghost use Rattle.http_front.specs.Views.{standing_of};
+
+    ghost Value = { Standing };
+
+    ghost view = { λ front. standing_of front.state };
 }
 
 /// What came of some bytes: an item at most, the state behind it, and the bytes that are left.
@@ -284,7 +296,7 @@ fn ended(alloc: Global, state: State) -> Result<Vec<Item>, AllocError>
 impl Front {
     /// The front of a connection of which nothing has come yet.
     pub fn new(alloc: Global) -> Front
-        ensures { standing result ≡ standings.Reading [] }
+        ensures { result ≡ standings.Reading [] }
     {
         Front {
             alloc,
@@ -297,10 +309,10 @@ impl Front {
     ///
     /// The only error is want of memory. Every later call answers it too.
     pub fn feed(&mut self, piece: &[u8]) -> Result<Vec<Item>, AllocError>
-        ensures given { IfOk result (λ items. map heard_of items.items ≡ items_from (standing self.old) piece.now false) }
-        ensures goes { IfOk result (λ items. Goes (standing self.old) piece.now (map heard_of items.items) (standing self.new) []) }
-        ensures failed { OnErr result (standing self.new ≡ standings.Failed) }
-        ensures again { standing self.old ≡ standings.Failed → IsErr result }
+        ensures given { IfOk result (λ items. map heard_of items.items ≡ items_from self.old piece.now false) }
+        ensures goes { IfOk result (λ items. Goes self.old piece.now (map heard_of items.items) self.new []) }
+        ensures failed { OnErr result (self.new ≡ standings.Failed) }
+        ensures again { self.old ≡ standings.Failed → IsErr result }
     {
         let state = mem::replace(&mut self.state, State::Failed);
         let done = advance(self.alloc, state, piece)?;
@@ -313,8 +325,8 @@ impl Front {
     ///
     /// The only error is want of memory, now or in an earlier call.
     pub fn finish(self) -> Result<Vec<Item>, AllocError>
-        ensures given { IfOk result (λ items. map heard_of items.items ≡ items_from (standing self) [] true) }
-        ensures again { standing self ≡ standings.Failed → IsErr result }
+        ensures given { IfOk result (λ items. map heard_of items.items ≡ items_from self [] true) }
+        ensures again { self ≡ standings.Failed → IsErr result }
     {
         let Front { alloc, state } = self;
         ended(alloc, state)

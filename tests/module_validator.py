@@ -47,6 +47,13 @@ class Bytes:
             if not byte & 0x80:
                 return value
 
+    def signed(self):
+        """A signed number."""
+        first = self.at
+        value = self.number()
+        bits = 7 * (self.at - first)
+        return value - (1 << bits) if value >> (bits - 1) else value
+
     def take(self, count):
         self.at += count
         return self.data[self.at - count : self.at]
@@ -67,27 +74,27 @@ class Bytes:
         return self.limits()
 
     def constant(self):
-        """The type of a constant; its number does not matter here."""
+        """The type and the number of a constant."""
         operator = self.byte()
-        self.number()
+        value = self.signed()
         self.byte()
-        return I32 if operator == 0x41 else I64
+        return I32 if operator == 0x41 else I64, value
 
     def function_type(self):
         self.byte()
         return self.vector(self.byte), self.vector(self.byte)
 
     def import_item(self):
-        self.name()
-        self.name()
+        """Its kind, what it describes, and its two names."""
+        names = self.name(), self.name()
         kind = self.byte()
         if kind == 0:
-            return kind, self.number()
+            return kind, self.number(), names
         if kind == 1:
-            return kind, self.table()
+            return kind, self.table(), names
         if kind == 2:
-            return kind, self.limits()
-        return kind, (self.byte(), self.byte())
+            return kind, self.limits(), names
+        return kind, (self.byte(), self.byte()), names
 
     def defined_global(self):
         return self.byte(), self.byte(), self.constant()
@@ -125,7 +132,9 @@ class Bytes:
             return byte, self.number(), self.number()
         if byte in (0x3F, 0x40):
             return byte, self.byte()
-        if byte in (0x0C, 0x0D, 0x10, 0x41, 0x42, *range(0x20, 0x25)):
+        if byte in (0x41, 0x42):
+            return byte, self.signed()
+        if byte in (0x0C, 0x0D, 0x10, *range(0x20, 0x25)):
             return byte, self.number()
         return (byte,)
 
@@ -165,7 +174,7 @@ class Module:
         return file.vector(lambda: item(file))
 
     def imported(self, kind):
-        return [item for found, item in self.imports if found == kind]
+        return [item for found, item, _ in self.imports if found == kind]
 
 
 def decode(data):
@@ -364,7 +373,7 @@ def check_limits(kind, limits, item, before):
 
 def check_imports(module):
     seen = {1: 0, 2: 0}
-    for item, (kind, description) in enumerate(module.imports):
+    for item, (kind, description, _) in enumerate(module.imports):
         if kind == 0 and description >= len(module.types):
             raise Broken(UNKNOWN_INDEX, item)
         if kind in seen:
@@ -395,7 +404,7 @@ def check_start(module):
 def check_segment(item, index, items, offset):
     if index >= len(items):
         raise Broken(UNKNOWN_INDEX, item)
-    if offset != I32:
+    if offset[0] != I32:
         raise Broken(CONSTANT_TYPE, item)
 
 
@@ -409,7 +418,7 @@ def check(module):
     for item, limits in enumerate(module.own_memories):
         check_limits(2, limits, item, imported[2] + item)
     for item, (value, _, constant) in enumerate(module.own_globals):
-        if value != constant:
+        if value != constant[0]:
             raise Broken(CONSTANT_TYPE, item)
     check_exports(module)
     check_start(module)

@@ -8,5 +8,6 @@ pub mod NestedLaws
 pub mod NumberLaws
 pub mod NumberSteps
 pub mod Powers
+mod OperandCounts
 mod Rotations
 mod TrapLaws

@@ -1,5 +1,5 @@
 -- When the integer operators trap.
-use Rattle.std.proofs.Common.{◌≡◌, ◌≢◌, ℕ, ◌-◌, ◌^◌, ◌<◌, ◌↔◌, ◌⊎◌, ◌==◌, ◌&&◌, Bool, true, false, Option, Some, IfSome, Result, Ok, Err, IfErr, if◌then◌else◌, int_div, int_rem, ◌/◌, ◌%◌, refl, subst, inl, inr, arith, pos, neg_ℤ}
+use Rattle.std.proofs.Common.{◌≡◌, ◌≢◌, ℕ, ◌-◌, ◌^◌, ◌<◌, ◌↔◌, ◌⊎◌, ◌==◌, ◌&&◌, Bool, true, false, Option, Some, None, IfSome, option_map, Result, Ok, Err, IfErr, if◌then◌else◌, int_div, int_rem, ◌/◌, ◌%◌, refl, subst, inl, inr, arith, pos, neg_ℤ}
 use Rattle.std.proofs.lemmas.Bool.Decides.{nat_tests}
 use Rattle.std.proofs.lemmas.Int.{ints}
 use Rattle.wasm_ops.specs.declared.types.ValType.{ValType}
@@ -9,9 +9,9 @@ use Rattle.wasm_ops.specs.declared.traps.Trap.TheVariants.{DivideByZero, Integer
 use Rattle.wasm_ops.specs.declared.operations.Arithmetic.TheVariants.{DivS, DivU, RemS, RemU}
 use Rattle.wasm_ops.specs.declared.operations.Operation.{Operation}
 use Rattle.wasm_ops.specs.declared.operations.Operation.TheVariants.{Compute}
-use Rattle.wasm_ops.specs.Operations.{operand_of, operation_of}
+use Rattle.wasm_ops.specs.Operations.{operand_of}
 use Rattle.wasm_ops.specs.Values.{bits_of, modulus, signed, unsigned, IsOfType}
-use Rattle.wasm_ops.specs.Arithmetic.{two_operands, IsDivision, IsOperand, Overflows}
+use Rattle.wasm_ops.specs.Arithmetic.{two_operands, IsDivision, Overflows}
 
 -- a number is no trap
 ok_never : (x : ℕ) (trap : Trap) (P : Type 0) → Ok x ≡ Err trap → P
@@ -34,7 +34,7 @@ division_by_zero : (b : ℕ) (r : Result ℕ Trap) → r ≢ Err DivideByZero �
     ((if b == 0 then Err DivideByZero else r) ≡ Err DivideByZero) ↔ (Unit {0} × (b ≡ 0))
 division_by_zero b r ne = let t = tested b r ne in (λ h. (tt, t.0 h), λ h. t.1 h.1)
 
-pub two_operands-by_zero : (o : Operation) (a b : ℕ) →
+two_operands-by_zero : (o : Operation) (a b : ℕ) →
     (two_operands o a b ≡ Err DivideByZero) ↔ (IsDivision (Some o) × (b ≡ 0))
 two_operands-by_zero (Compute t DivS) a b = division_by_zero b _ (overflow_tested _ _)
 two_operands-by_zero (Compute t DivU) a b = division_by_zero b _ (ok_never _ _ _)
@@ -71,7 +71,7 @@ no_overflow b x = divided (b == 0) x
 never_overflows : (x : ℕ) → (Ok x ≡ Err IntegerOverflow) ↔ ⊥
 never_overflows x = (ok_never x IntegerOverflow _, λ h. absurd h)
 
-pub two_operands-overflow : (o : Operation) (a b : ℕ) → IsOfType (operand_of o) a → IsOfType (operand_of o) b →
+two_operands-overflow : (o : Operation) (a b : ℕ) → IsOfType (operand_of o) a → IsOfType (operand_of o) b →
     (two_operands o a b ≡ Err IntegerOverflow) ↔ Overflows (Some o) a b
 two_operands-overflow (Compute t DivS) a b in_a in_b =
     let q = overflow_of_quotient t a b (unsigned t (int_div (signed t a) (signed t b))) in
@@ -91,7 +91,7 @@ tested_trap false trap P r h k = k
 abbrev IsOfDivision : Trap → Type 0
 IsOfDivision trap = (trap ≡ DivideByZero) ⊎ (trap ≡ IntegerOverflow)
 
-pub two_operands-traps : (o : Operation) (a b : ℕ) →
+two_operands-traps : (o : Operation) (a b : ℕ) →
     IfErr (two_operands o a b) (λ trap. (trap ≡ DivideByZero) ⊎ (trap ≡ IntegerOverflow))
 two_operands-traps (Compute t DivS) a b =
     let quotient : Result ℕ Trap = Ok (unsigned t (int_div (signed t a) (signed t b))) in
@@ -105,7 +105,32 @@ two_operands-traps (Compute t RemS) a b =
 two_operands-traps (Compute t RemU) a b = tested_trap (b == 0) DivideByZero IsOfDivision (Ok (a % b)) (inl refl) tt
 two_operands-traps _ a b = tt
 
--- an operand of the byte's operator is one of what it does
-pub operand_of_its_type
-    : (byte n : ℕ) (o : Operation) → operation_of byte ≡ Some o → IsOperand byte n → IsOfType (operand_of o) n
-operand_of_its_type byte n o e is = subst (λ (x : Option Operation). IfSome x (λ p. IsOfType (operand_of p) n)) e is
+-- The same of what the operator found for a byte gives.
+
+given : (o : Operation) (a b : ℕ) (r : Result ℕ Trap) → option_map (λ p. two_operands p a b) (Some o) ≡ Some r → two_operands o a b ≡ r
+given o a b r e = cc
+
+pub found-by_zero
+    : (found : Option Operation) (a b : ℕ) (r : Result ℕ Trap) → option_map (λ o. two_operands o a b) found ≡ Some r
+    → (r ≡ Err DivideByZero) ↔ (IsDivision found × (b ≡ 0))
+found-by_zero None a b r e = let bad : ⊥ = cc in absurd bad
+found-by_zero (Some o) a b r e =
+    let P : Result ℕ Trap → Type 0 = λ x. (x ≡ Err DivideByZero) ↔ (IsDivision (Some o) × (b ≡ 0)) in
+    subst P (given o a b r e) (two_operands-by_zero o a b)
+
+pub found-overflow
+    : (found : Option Operation) (a b : ℕ) (r : Result ℕ Trap) → option_map (λ o. two_operands o a b) found ≡ Some r
+    → IfSome found (λ o. IsOfType (operand_of o) a) → IfSome found (λ o. IsOfType (operand_of o) b)
+    → (r ≡ Err IntegerOverflow) ↔ Overflows found a b
+found-overflow None a b r e in_a in_b = let bad : ⊥ = cc in absurd bad
+found-overflow (Some o) a b r e in_a in_b =
+    let P : Result ℕ Trap → Type 0 = λ x. (x ≡ Err IntegerOverflow) ↔ Overflows (Some o) a b in
+    subst P (given o a b r e) (two_operands-overflow o a b in_a in_b)
+
+pub found-traps
+    : (found : Option Operation) (a b : ℕ) (r : Result ℕ Trap) → option_map (λ o. two_operands o a b) found ≡ Some r
+    → IfErr r (λ trap. (trap ≡ DivideByZero) ⊎ (trap ≡ IntegerOverflow))
+found-traps None a b r e = let bad : ⊥ = cc in absurd bad
+found-traps (Some o) a b r e =
+    let P : Result ℕ Trap → Type 0 = λ x. IfErr x IsOfDivision in
+    subst P (given o a b r e) (two_operands-traps o a b)

@@ -1,42 +1,37 @@
 //! The integer operators on numbers (WebAssembly Core 1.0, section 4.3.2).
-ghost use Rattle.std.specs.Prelude.{◌≡◌, ◌↔◌, ◌⊎◌, IfOk, IfErr, Err, Some, true, false};
-ghost use Rattle.wasm_ops.specs.Operations.{IsOfOne, IsOfTwo, operand_of, operation_of, result_of, takes_one};
-ghost use Rattle.wasm_ops.specs.Values.{IsOfType};
-ghost use Rattle.wasm_ops.specs.Arithmetic.{IsDivision, IsOperand, IsResult, Overflows, binary_result, two_operands, one_operand, unary_result};
+ghost use Rattle.std.specs.Prelude.{◌≡◌, ◌↔◌, ◌⊎◌, IfOk, IfErr, Err, Some};
+ghost use Rattle.wasm_ops.specs.Operations.{IsOfOne, IsOfTwo, operation_of};
+ghost use Rattle.wasm_ops.specs.Arithmetic.{IsDivision, IsOperand, IsResult, Overflows, binary_result, unary_result};
 
-use crate::{IntOp, Operation, Trap, ValType};
+use crate::{Arithmetic, BitCount, IntOp, Relation, Trap};
 
 /// What an operator of one operand gives for a value of its type. It never traps.
+#[inline(always)]
 pub fn apply_unary(op: IntOp, a: u64) -> u64
     requires takes_one { IsOfOne op }
     requires a_of_its_type { IsOperand op a }
     ensures value { unary_result op a ≡ Some result }
     ensures of_its_type { IsResult op result }
 {
-    count_or_convert(op.operation(), a)
-}
-
-/// What an operation of one operand gives.
-fn count_or_convert(operation: Operation, a: u64) -> u64
-    requires takes_one { takes_one operation ≡ true }
-    requires a_of_its_type { IsOfType (operand_of operation) a }
-    ensures value { result ≡ one_operand operation a }
-    ensures of_its_type { IsOfType (result_of operation) result }
-{
-    match operation {
-        Operation::Eqz(_) => u64::from(a == 0),
-        Operation::Count(ValType::I32, count) => u64::from(count.of_i32(a as u32)),
-        Operation::Count(ValType::I64, count) => u64::from(count.of_i64(a)),
-        Operation::Wrap => a % 0x1_0000_0000,
-        Operation::ExtendS => i64::from((a as u32).cast_signed()).cast_unsigned(),
-        Operation::ExtendU => a,
-        Operation::Compare(_, _) | Operation::Compute(_, _) => unreachable!(),
+    match op.byte() {
+        0x45 | 0x50 => u64::from(a == 0),
+        0x67 => u64::from(BitCount::Clz.of_i32(a as u32)),
+        0x68 => u64::from(BitCount::Ctz.of_i32(a as u32)),
+        0x69 => u64::from(BitCount::Popcnt.of_i32(a as u32)),
+        0x79 => u64::from(BitCount::Clz.of_i64(a)),
+        0x7A => u64::from(BitCount::Ctz.of_i64(a)),
+        0x7B => u64::from(BitCount::Popcnt.of_i64(a)),
+        0xA7 => a % 0x1_0000_0000,
+        0xAC => i64::from((a as u32).cast_signed()).cast_unsigned(),
+        0xAD => a,
+        _ => unreachable!(),
     }
 }
 
 /// What an operator of two operands gives for two values of its type, or its trap.
 ///
 /// A comparison gives 1 where it holds, and else 0.
+#[inline(always)]
 pub fn apply_binary(op: IntOp, a: u64, b: u64) -> Result<u64, Trap>
     requires takes_two { IsOfTwo op }
     requires a_of_its_type { IsOperand op a }
@@ -49,30 +44,69 @@ pub fn apply_binary(op: IntOp, a: u64, b: u64) -> Result<u64, Trap>
     ensures overflow { (result ≡ Err Trap.IntegerOverflow) ↔ Overflows (operation_of op) a b }
     ensures no_other { IfErr result (λ trap. (trap ≡ Trap.DivideByZero) ⊎ (trap ≡ Trap.IntegerOverflow)) }
 {
-    combine(op.operation(), a, b)
+    combine(op.byte(), a, b)
 }
 
-/// What an operation of two operands gives.
-fn combine(operation: Operation, a: u64, b: u64) -> Result<u64, Trap>
-    requires takes_two { takes_one operation ≡ false }
-    requires a_of_its_type { IsOfType (operand_of operation) a }
-    requires b_of_its_type { IsOfType (operand_of operation) b }
-    ensures value { result ≡ two_operands operation a b }
-    ensures of_its_type { IfOk result (IsOfType (result_of operation)) }
+/// What the operator with this byte gives for two values of its type.
+#[inline(always)]
+fn combine(byte: u8, a: u64, b: u64) -> Result<u64, Trap>
+    requires takes_two { IsOfTwo byte }
+    requires a_of_its_type { IsOperand byte a }
+    requires b_of_its_type { IsOperand byte b }
+    ensures value { binary_result byte a b ≡ Some result }
+    ensures of_its_type { IfOk result (IsResult byte) }
 {
-    match operation {
-        Operation::Compare(ValType::I32, relation) => {
-            Ok(u64::from(relation.holds_i32(a as u32, b as u32)))
-        }
-        Operation::Compare(ValType::I64, relation) => Ok(u64::from(relation.holds_i64(a, b))),
-        Operation::Compute(ValType::I32, arithmetic) => {
-            Ok(u64::from(arithmetic.of_i32(a as u32, b as u32)?))
-        }
-        Operation::Compute(ValType::I64, arithmetic) => arithmetic.of_i64(a, b),
-        Operation::Eqz(_)
-        | Operation::Count(_, _)
-        | Operation::Wrap
-        | Operation::ExtendS
-        | Operation::ExtendU => unreachable!(),
+    match byte {
+        0x46 => Ok(u64::from(Relation::Eq.holds_i32(a as u32, b as u32))),
+        0x47 => Ok(u64::from(Relation::Ne.holds_i32(a as u32, b as u32))),
+        0x48 => Ok(u64::from(Relation::LtS.holds_i32(a as u32, b as u32))),
+        0x49 => Ok(u64::from(Relation::LtU.holds_i32(a as u32, b as u32))),
+        0x4A => Ok(u64::from(Relation::GtS.holds_i32(a as u32, b as u32))),
+        0x4B => Ok(u64::from(Relation::GtU.holds_i32(a as u32, b as u32))),
+        0x4C => Ok(u64::from(Relation::LeS.holds_i32(a as u32, b as u32))),
+        0x4D => Ok(u64::from(Relation::LeU.holds_i32(a as u32, b as u32))),
+        0x4E => Ok(u64::from(Relation::GeS.holds_i32(a as u32, b as u32))),
+        0x4F => Ok(u64::from(Relation::GeU.holds_i32(a as u32, b as u32))),
+        0x51 => Ok(u64::from(Relation::Eq.holds_i64(a, b))),
+        0x52 => Ok(u64::from(Relation::Ne.holds_i64(a, b))),
+        0x53 => Ok(u64::from(Relation::LtS.holds_i64(a, b))),
+        0x54 => Ok(u64::from(Relation::LtU.holds_i64(a, b))),
+        0x55 => Ok(u64::from(Relation::GtS.holds_i64(a, b))),
+        0x56 => Ok(u64::from(Relation::GtU.holds_i64(a, b))),
+        0x57 => Ok(u64::from(Relation::LeS.holds_i64(a, b))),
+        0x58 => Ok(u64::from(Relation::LeU.holds_i64(a, b))),
+        0x59 => Ok(u64::from(Relation::GeS.holds_i64(a, b))),
+        0x5A => Ok(u64::from(Relation::GeU.holds_i64(a, b))),
+        0x6A => Ok(u64::from(Arithmetic::Add.of_i32(a as u32, b as u32)?)),
+        0x6B => Ok(u64::from(Arithmetic::Sub.of_i32(a as u32, b as u32)?)),
+        0x6C => Ok(u64::from(Arithmetic::Mul.of_i32(a as u32, b as u32)?)),
+        0x6D => Ok(u64::from(Arithmetic::DivS.of_i32(a as u32, b as u32)?)),
+        0x6E => Ok(u64::from(Arithmetic::DivU.of_i32(a as u32, b as u32)?)),
+        0x6F => Ok(u64::from(Arithmetic::RemS.of_i32(a as u32, b as u32)?)),
+        0x70 => Ok(u64::from(Arithmetic::RemU.of_i32(a as u32, b as u32)?)),
+        0x71 => Ok(u64::from(Arithmetic::And.of_i32(a as u32, b as u32)?)),
+        0x72 => Ok(u64::from(Arithmetic::Or.of_i32(a as u32, b as u32)?)),
+        0x73 => Ok(u64::from(Arithmetic::Xor.of_i32(a as u32, b as u32)?)),
+        0x74 => Ok(u64::from(Arithmetic::Shl.of_i32(a as u32, b as u32)?)),
+        0x75 => Ok(u64::from(Arithmetic::ShrS.of_i32(a as u32, b as u32)?)),
+        0x76 => Ok(u64::from(Arithmetic::ShrU.of_i32(a as u32, b as u32)?)),
+        0x77 => Ok(u64::from(Arithmetic::Rotl.of_i32(a as u32, b as u32)?)),
+        0x78 => Ok(u64::from(Arithmetic::Rotr.of_i32(a as u32, b as u32)?)),
+        0x7C => Arithmetic::Add.of_i64(a, b),
+        0x7D => Arithmetic::Sub.of_i64(a, b),
+        0x7E => Arithmetic::Mul.of_i64(a, b),
+        0x7F => Arithmetic::DivS.of_i64(a, b),
+        0x80 => Arithmetic::DivU.of_i64(a, b),
+        0x81 => Arithmetic::RemS.of_i64(a, b),
+        0x82 => Arithmetic::RemU.of_i64(a, b),
+        0x83 => Arithmetic::And.of_i64(a, b),
+        0x84 => Arithmetic::Or.of_i64(a, b),
+        0x85 => Arithmetic::Xor.of_i64(a, b),
+        0x86 => Arithmetic::Shl.of_i64(a, b),
+        0x87 => Arithmetic::ShrS.of_i64(a, b),
+        0x88 => Arithmetic::ShrU.of_i64(a, b),
+        0x89 => Arithmetic::Rotl.of_i64(a, b),
+        0x8A => Arithmetic::Rotr.of_i64(a, b),
+        _ => unreachable!(),
     }
 }

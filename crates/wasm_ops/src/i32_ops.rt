@@ -7,6 +7,7 @@ use crate::{Arithmetic, BitCount, Relation, Trap};
 
 impl Relation {
     /// Whether it holds between two i32.
+    #[inline(always)]
     pub(crate) fn holds_i32(self, a: u32, b: u32) -> bool
         ensures { result ≡ holds I32 self a b }
     {
@@ -27,6 +28,7 @@ impl Relation {
 
 impl BitCount {
     /// The count in an i32.
+    #[inline(always)]
     pub(crate) fn of_i32(self, a: u32) -> u32
         ensures { result ≡ bit_count I32 self a }
     {
@@ -40,6 +42,7 @@ impl BitCount {
 
 impl Arithmetic {
     /// What it makes of two i32, or its trap.
+    #[inline(always)]
     pub(crate) fn of_i32(self, a: u32, b: u32) -> Result<u32, Trap>
         ensures { result ≡ compute I32 self a b }
     {
@@ -64,6 +67,7 @@ impl Arithmetic {
 }
 
 /// `i32.div_s`
+#[inline(always)]
 fn quotient_signed(a: u32, b: u32) -> Result<u32, Trap>
     ensures { result ≡ div_s I32 a b }
 {
@@ -77,6 +81,7 @@ fn quotient_signed(a: u32, b: u32) -> Result<u32, Trap>
 }
 
 /// `i32.rem_s`
+#[inline(always)]
 fn remainder_signed(a: u32, b: u32) -> Result<u32, Trap>
     ensures { result ≡ rem_s I32 a b }
 {
@@ -91,6 +96,7 @@ fn remainder_signed(a: u32, b: u32) -> Result<u32, Trap>
 }
 
 /// `i32.rotl`
+#[inline(always)]
 fn rotl(a: u32, b: u32) -> u32
     ensures { result ≡ rotated_left I32 a (b % 32) }
 {
@@ -98,6 +104,7 @@ fn rotl(a: u32, b: u32) -> u32
 }
 
 /// `i32.rotr`
+#[inline(always)]
 fn rotr(a: u32, b: u32) -> u32
     ensures { result ≡ rotated_right I32 a (b % 32) }
 {

@@ -7,6 +7,7 @@ use crate::{Arithmetic, BitCount, Relation, Trap};
 
 impl Relation {
     /// Whether it holds between two i64.
+    #[inline(always)]
     pub(crate) fn holds_i64(self, a: u64, b: u64) -> bool
         ensures { result ≡ holds I64 self a b }
     {
@@ -27,6 +28,7 @@ impl Relation {
 
 impl BitCount {
     /// The count in an i64.
+    #[inline(always)]
     pub(crate) fn of_i64(self, a: u64) -> u32
         ensures { result ≡ bit_count I64 self a }
     {
@@ -40,6 +42,7 @@ impl BitCount {
 
 impl Arithmetic {
     /// What it makes of two i64, or its trap.
+    #[inline(always)]
     pub(crate) fn of_i64(self, a: u64, b: u64) -> Result<u64, Trap>
         ensures { result ≡ compute I64 self a b }
     {
@@ -64,6 +67,7 @@ impl Arithmetic {
 }
 
 /// `i64.div_s`
+#[inline(always)]
 fn quotient_signed(a: u64, b: u64) -> Result<u64, Trap>
     ensures { result ≡ div_s I64 a b }
 {
@@ -77,6 +81,7 @@ fn quotient_signed(a: u64, b: u64) -> Result<u64, Trap>
 }
 
 /// `i64.rem_s`
+#[inline(always)]
 fn remainder_signed(a: u64, b: u64) -> Result<u64, Trap>
     ensures { result ≡ rem_s I64 a b }
 {
@@ -91,6 +96,7 @@ fn remainder_signed(a: u64, b: u64) -> Result<u64, Trap>
 }
 
 /// `i64.rotl`
+#[inline(always)]
 fn rotl(a: u64, b: u64) -> u64
     ensures { result ≡ rotated_left I64 a (b % 64) }
 {
@@ -98,6 +104,7 @@ fn rotl(a: u64, b: u64) -> u64
 }
 
 /// `i64.rotr`
+#[inline(always)]
 fn rotr(a: u64, b: u64) -> u64
     ensures { result ≡ rotated_right I64 a (b % 64) }
 {

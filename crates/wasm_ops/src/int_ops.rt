@@ -39,6 +39,7 @@ impl IntOp {
     }
 
     /// The byte.
+    #[inline(always)]
     pub fn byte(&self) -> u8
         ensures { result ≡ self.now }
     {

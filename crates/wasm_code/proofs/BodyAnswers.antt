@@ -1,11 +1,10 @@
 -- What `read_body` answers, from what its parts do.
-use Rattle.std.proofs.Common.{◌≡◌, inl, inr, ℕ, List, [], ◌∷◌, ◌++◌, take, drop, length, Result, Ok, Err, IfOk, IfErr, refl, ap, ◌∙◌, subst, ◌-◌, ◌≤◌, arith}
+use Rattle.std.proofs.Common.{◌≡◌, inl, inr, ℕ, List, take, drop, length, Result, Ok, Err, IfOk, IfErr, refl, ◌∙◌, subst, ◌-◌, ◌≤◌, arith}
 use Rattle.std.proofs.lemmas.List.{take_all}
 use Rattle.wasm_ops.specs.declared.faults.Fault.{Fault}
 use Rattle.wasm_ops.specs.declared.faults.Refusal.TheVariants.{CutShort}
 use Rattle.wasm_ops.specs.declared.modules.Body.{Body}
 use Rattle.wasm_ops.specs.declared.operators.Op.{Op}
-use Rattle.wasm_ops.specs.declared.operators.Op.TheVariants as op
 use Rattle.wasm_ops.specs.declared.types.ValType.{ValType}
 use Rattle.wasm_ops.specs.Input.{Input}
 use Rattle.wasm_code.specs.declared.faults.CodeFault.{CodeFault}
@@ -14,13 +13,11 @@ use Rattle.wasm_code.specs.declared.items.Item.{Item}
 use Rattle.wasm_code.specs.Locals.{locals_from}
 use Rattle.wasm_code.specs.Faults.{IsFaultOf, IsAmong, GivesValue, GivesFault}
 use Rattle.wasm_code.specs.Bodies.{AreCut, beginning, first_place, SpellsBody, RefusesBody}
-use Rattle.wasm_code.specs.Laying.{Laid, with_items, nothing}
 use Rattle.wasm_code.specs.Operators.{SpellsOperators, RefusesOperators}
 use Rattle.wasm_ops.proofs.InputLaws.{same_input}
 use Rattle.wasm_code.proofs.ItemLaws.{locals_decides}
 use Rattle.wasm_code.proofs.Completions.{sequence_of}
-use Rattle.wasm_code.proofs.LayingLaws.{laid}
-use Rattle.wasm_code.proofs.BodyLaws.{body_or_fault, one_body, one_refusal}
+use Rattle.wasm_code.proofs.BodyLaws.{flat_of, body_or_fault, one_body, one_refusal}
 use Rattle.wasm_code.proofs.RefusalPlaces.{body_placed}
 
 pub spelt
@@ -30,9 +27,6 @@ pub spelt
 spelt bytes start locals ops targets read spells =
     let whole = sequence_of spells.items (first_place start) spells.last refl spells.cut spells.no_block in
     let P : List Item → Type 0 = λ is. AreCut is (first_place start) spells.last in
-    let flat_ops =
-    ap (λ (is : List Item). (with_items is nothing).ops ++ op.End ∷ []) whole.2
-    ∙ ap (λ (l : Laid). l.ops ++ op.End ∷ []) (laid whole.0 [] []) in
     record {
       start = start;
       sequence = whole.0;
@@ -44,7 +38,7 @@ spelt bytes start locals ops targets read spells =
       closed = spells.closed;
       whole = spells.whole;
       nested = whole.1;
-      laid_out = spells.laid_out ∙ flat_ops;
+      laid_out = spells.laid_out ∙ flat_of spells.items whole.0 whole.2;
     }
 
 pub locals_refused

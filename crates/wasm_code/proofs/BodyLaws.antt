@@ -1,5 +1,5 @@
 -- For each list of bytes one of the two holds in one way: they spell a body, or they are refused with a fault.
-use Rattle.std.proofs.Common.{◌≡◌, ◌⊎◌, inl, inr, ℕ, suc, zero, ◌<◌, List, [], ◌∷◌, ◌++◌, length, Some, None, Ok, Err, refl, ap, sym, ◌∙◌, subst, arith}
+use Rattle.std.proofs.Common.{◌≡◌, ◌⊎◌, inl, inr, ℕ, suc, zero, ◌<◌, List, [], ◌∷◌, ◌++◌, length, Option, Some, None, Result, Ok, Err, MatchResult, refl, ap, sym, ◌∙◌, subst, arith}
 use Rattle.wasm_ops.specs.declared.faults.Fault.{Fault}
 use Rattle.wasm_ops.specs.declared.modules.Body.{Body}
 use Rattle.wasm_ops.specs.declared.operators.Op.{Op}
@@ -13,12 +13,11 @@ use Rattle.wasm_code.specs.declared.items.Item.{Item}
 use Rattle.wasm_code.specs.declared.items.Item.TheVariants as item
 use Rattle.wasm_code.specs.declared.items.Opener.TheVariants as opener
 use Rattle.wasm_code.specs.declared.items.Kind.{Kind}
-use Rattle.wasm_code.specs.declared.items.Kind.TheVariants as kind
 use Rattle.wasm_code.specs.Reading.{Read}
 use Rattle.wasm_code.specs.Items.{Parsed, RefusesItem, item_from}
 use Rattle.wasm_code.specs.Locals.{ReadsLocals, RefusesLocals, locals_from}
-use Rattle.wasm_code.specs.Bodies.{items_of, open_behind, Place, AreCut, beginning, first_place, SpellsBody, Misplaced, Remains, RefusesNext, RefusesBody}
-use Rattle.wasm_code.specs.Laying.{Laid, with_items}
+use Rattle.wasm_code.specs.Bodies.{items_of, open_behind, Place, AreCut, beginning, first_place, SpellsBody, Misplaced, Remains, RefusesNext, RefusesBody, Walked, at_the_end, walk_ends, walk_behind, walk_at, walk_from, with_walked, behind_locals, body_from}
+use Rattle.wasm_code.specs.Laying.{Laid, with_items, nothing}
 use Rattle.wasm_code.proofs.Halts as halts
 use Rattle.wasm_code.proofs.Halts.{Halts, ReadsAt, one_item, no_item, same_place, refused_halts, closed_halts, one_halt, cut_more}
 use Rattle.wasm_code.proofs.ItemLaws.{item_decides, locals_decides}
@@ -140,133 +139,149 @@ one_refusal bytes f g (inr one) (inr two) =
 
 -- One of the two.
 
--- where the items lead
-abbrev Leads : Place → Type 0
-Leads start =
-    ((items : List Item) × (last : Place) × (targets : List ℕ) × (after : Input) × AreCut items start last
-    × (last.blocks ≡ []) × ReadsAt last (item.End, targets) after × (after.left ≡ []))
-    ⊎ ((items : List Item) × (here : Place) × (fault : Fault) × AreCut items start here × RefusesNext here fault)
-
--- an item that stands, and one that does not
-abbrev Goes : Item → List Kind → Type 0
-Goes passed blocks =
-    ((next : List Kind) × (open_behind passed blocks ≡ Some next))
-    ⊎ (((passed ≡ item.Else) × (open_behind item.Else blocks ≡ None)) ⊎ ((passed ≡ item.End) × (blocks ≡ [])))
-
-goes : (passed : Item) (blocks : List Kind) → Goes passed blocks
-goes (item.Operator o) blocks = inl (blocks, refl)
-goes (item.Opens opener.Block result) blocks = inl (kind.Block ∷ blocks, refl)
-goes (item.Opens opener.Loop result) blocks = inl (kind.Loop ∷ blocks, refl)
-goes (item.Opens opener.If result) blocks = inl (kind.Then ∷ blocks, refl)
-goes item.Else [] = inr (inl (refl, refl))
-goes item.Else (kind.Block ∷ blocks) = inr (inl (refl, refl))
-goes item.Else (kind.Loop ∷ blocks) = inr (inl (refl, refl))
-goes item.Else (kind.Then ∷ blocks) = inl (kind.Else ∷ blocks, refl)
-goes item.Else (kind.Else ∷ blocks) = inr (inl (refl, refl))
-goes item.End [] = inr (inr (refl, refl))
-goes item.End (inmost ∷ blocks) = inl (blocks, refl)
+-- what a walk over the items answers is where they lead
+abbrev Leads : Place → Walked → Type 0
+Leads start (Ok walked) =
+    (last : Place) × (after : Input) × AreCut walked.0 start last
+    × (last.blocks ≡ []) × ReadsAt last (item.End, walked.1) after × (after.left ≡ [])
+Leads start (Err fault) = (items : List Item) × (here : Place) × AreCut items start here × RefusesNext here fault
 
 -- behind the `end` of the body
 left_over
     : (start here : Place) (items : List Item) (targets : List ℕ) (after : Input) (left : List ℕ) → AreCut items start here → here.blocks ≡ []
-    → ReadsAt here (item.End, targets) after → after.left ≡ left → Leads start
-left_over start here items targets after [] cut none spelt e = inl (items, here, targets, after, cut, none, spelt, e)
-left_over start here items targets after (byte ∷ rest) cut none spelt e =
-    inr (
-      items,
-      here,
-      fault_at refusal.RestAfterEnd after.at,
-      cut,
-      inr (inr record {
-        targets = targets;
-        after = after;
-        byte = byte;
-        rest = rest;
-        no_block = none;
-        spelt = spelt;
-        more = e;
-        told = refl;
-      }),
-    )
+    → ReadsAt here (item.End, targets) after → after.left ≡ left → Leads start (at_the_end items targets after left)
+left_over start here items targets after [] cut none spelt e = (here, after, cut, none, spelt, e)
+left_over start here items targets after (byte ∷ rest) cut none spelt e = (
+  items,
+  here,
+  cut,
+  inr (inr record {
+    targets = targets;
+    after = after;
+    byte = byte;
+    rest = rest;
+    no_block = none;
+    spelt = spelt;
+    more = e;
+    told = refl;
+  }),
+)
 
-as_turn : (here : Place) (p : Parsed) (after : Input) (passed : Item) → p.0 ≡ passed → ReadsAt here p after → ReadsAt here (passed, p.1) after
-as_turn here p after passed e reads = let P : Item → Type 0 = λ i. ReadsAt here (i, p.1) after in subst P e reads
+none_open : (blocks : List Kind) → open_behind item.End blocks ≡ None → blocks ≡ []
+none_open [] e = refl
+none_open (inmost ∷ blocks) e = let bad : ⊥ = cc in absurd bad
 
-walk_goes
-    : (start here : Place) (items : List Item) (p : Parsed) (after : Input)
-    → ((next : Place) → AreCut (items ++ p.0 ∷ []) start next → length next.ahead.left < length here.ahead.left → Leads start)
-    → AreCut items start here → ReadsAt here p after → Goes p.0 here.blocks → Leads start
-walk_goes start here items p after further cut reads (inl stands) =
-    let next : Place = record { blocks = stands.0; targets = p.1; ahead = after } in
-    further next
-    (cut_more items p.0 start here next cut (record { spelt = reads; stands = stands.1 }))
+-- behind an item that stands in no open block
+ends
+    : (start here : Place) (items : List Item) (passed : Item) (targets : List ℕ) (after : Input) → AreCut items start here
+    → ReadsAt here (passed, targets) after → open_behind passed here.blocks ≡ None → Leads start (walk_ends passed items here targets after)
+ends start here items (item.Operator o) targets after cut reads e = let bad : ⊥ = cc in absurd bad
+ends start here items (item.Opens opener.Block result) targets after cut reads e = let bad : ⊥ = cc in absurd bad
+ends start here items (item.Opens opener.Loop result) targets after cut reads e = let bad : ⊥ = cc in absurd bad
+ends start here items (item.Opens opener.If result) targets after cut reads e = let bad : ⊥ = cc in absurd bad
+ends start here items item.Else targets after cut reads e =
+    (items, here, cut, inr (inl record { targets = targets; after = after; spelt = reads; no_if = e; told = refl }))
+ends start here items item.End targets after cut reads e =
+    left_over start here items targets after after.left cut (none_open here.blocks e) reads refl
+
+-- what a walk does further on, behind one item more
+abbrev Further : (start here : Place) (items : List Item) (passed : Item) (next : List Item → Place → Walked) → Type 0
+Further start here items passed next =
+    (there : Place) → AreCut (items ++ passed ∷ []) start there → length there.ahead.left < length here.ahead.left
+    → Leads start (next (items ++ passed ∷ []) there)
+
+leads_behind
+    : (start here : Place) (items : List Item) (p : Parsed) (after : Input) (next : List Item → Place → Walked) (stand : Option (List Kind))
+    → Further start here items p.0 next → AreCut items start here → ReadsAt here p after → open_behind p.0 here.blocks ≡ stand
+    → Leads start (walk_behind stand p after items here next)
+leads_behind start here items p after next (Some blocks) further cut reads e =
+    let there : Place = record { blocks = blocks; targets = p.1; ahead = after } in
+    further there
+    (cut_more items p.0 start here there cut (record { spelt = reads; stands = e }))
     (item_shorter (length here.blocks) here.targets here.ahead p after reads)
-walk_goes start here items p after further cut reads (inr (inl turns)) =
-    inr (
-      items,
-      here,
-      fault_at refusal.BadNesting here.ahead.at,
-      cut,
-      inr (inl record {
-        targets = p.1;
-        after = after;
-        spelt = as_turn here p after item.Else turns.0 reads;
-        no_if = turns.1;
-        told = refl;
-      }),
-    )
-walk_goes start here items p after further cut reads (inr (inr closes)) =
-    left_over start here items p.1 after after.left cut closes.1 (as_turn here p after item.End closes.0 reads) refl
+leads_behind start here items p after next None further cut reads e = ends start here items p.0 p.1 after cut reads e
 
-walk_at
-    : (start here : Place) (items : List Item) (read : Read Parsed)
-    → ((passed : Item) (next : Place) → AreCut (items ++ passed ∷ []) start next → length next.ahead.left < length here.ahead.left → Leads start)
-    → AreCut items start here → item_from (length here.blocks) here.targets here.ahead ≡ read → Leads start
-walk_at start here items (Ok read) further cut e =
+leads_at
+    : (start here : Place) (items : List Item) (next : List Item → Place → Walked) (read : Read Parsed)
+    → ((passed : Item) → Further start here items passed next)
+    → AreCut items start here → item_from (length here.blocks) here.targets here.ahead ≡ read → Leads start (walk_at read items here next)
+leads_at start here items next (Ok read) further cut e =
     let reads = (item_decides (length here.blocks) here.targets here.ahead).found read.0 read.1 e in
-    walk_goes start here items read.0 read.1 (further read.0.0) cut reads (goes read.0.0 here.blocks)
-walk_at start here items (Err fault) further cut e =
-    inr (items, here, fault, cut, inl ((item_decides (length here.blocks) here.targets here.ahead).refused fault e))
+    leads_behind start here items read.0 read.1 next (open_behind read.0.0 here.blocks) (further read.0.0) cut reads refl
+leads_at start here items next (Err fault) further cut e =
+    (items, here, cut, inl ((item_decides (length here.blocks) here.targets here.ahead).refused fault e))
 
-walk : (n : ℕ) (start here : Place) (items : List Item) → AreCut items start here → length here.ahead.left < n → Leads start
-walk zero start here items cut short = let bad : ⊥ = omega arith in absurd bad
-walk (suc n) start here items cut short =
-    walk_at start here items (item_from (length here.blocks) here.targets here.ahead)
-    (λ passed next longer shorter. walk n start next (items ++ passed ∷ []) longer (omega arith)) cut refl
+leads : (n : ℕ) (start here : Place) (items : List Item) → AreCut items start here → length here.ahead.left < n → Leads start (walk_from n items here)
+leads zero start here items cut short = let bad : ⊥ = omega arith in absurd bad
+leads (suc n) start here items cut short =
+    leads_at start here items (λ more there. walk_from n more there) (item_from (length here.blocks) here.targets here.ahead)
+    (λ passed there longer shorter. leads n start there (items ++ passed ∷ []) longer (omega arith)) cut refl
+
+-- the operators as they are laid out are the flat form
+pub flat_of : (items : List Item) (s : Sequence) → items ≡ items_of s → (with_items items nothing).ops ++ op.End ∷ [] ≡ flat_body s
+flat_of items s e =
+    ap (λ (is : List Item). (with_items is nothing).ops ++ op.End ∷ []) e ∙ ap (λ (l : Laid). l.ops ++ op.End ∷ []) (laid s [] [])
+
+-- the answer is spelt, or it is refused with
+abbrev Tells : (bytes : List ℕ) → Result Body Fault → Type 0
+Tells bytes answer = MatchResult answer (SpellsBody bytes) (RefusesBody bytes)
+
+walked_tells
+    : (bytes : List ℕ) (locals : List ValType) (start : Input) (walked : Walked) → ReadsLocals (beginning bytes) locals start
+    → Leads (first_place start) walked → Tells bytes (with_walked locals walked)
+walked_tells bytes locals start (Ok walked) reads leading =
+    let whole = sequence_of walked.0 (first_place start) leading.0 refl leading.2 leading.3 in
+    let P : List Item → Type 0 = λ is. AreCut is (first_place start) leading.0 in
+    record {
+      start = start;
+      sequence = whole.0;
+      last = leading.0;
+      after = leading.1;
+      locals = reads;
+      cut = subst P whole.2 leading.2;
+      no_block = leading.3;
+      closed = leading.4;
+      whole = leading.5;
+      nested = whole.1;
+      laid_out = flat_of walked.0 whole.0 whole.2;
+    }
+walked_tells bytes locals start (Err fault) reads leading =
+    inr record { all = locals; start = start; items = leading.0; here = leading.1; locals = reads; cut = leading.2; refused = leading.3 }
+
+tells_at : (bytes : List ℕ) (read : Read (List ValType)) → locals_from (beginning bytes) ≡ read → Tells bytes (behind_locals read)
+tells_at bytes (Ok read) e =
+    let reads = (locals_decides (beginning bytes)).found read.0 read.1 e in
+    let start = first_place read.1 in
+    walked_tells bytes read.0 read.1 (walk_from (suc (length read.1.left)) [] start) reads
+    (leads (suc (length read.1.left)) start start [] refl (omega arith))
+tells_at bytes (Err fault) e = inl ((locals_decides (beginning bytes)).refused fault e)
+
+pub body_tells : (bytes : List ℕ) → MatchResult (body_from bytes) (SpellsBody bytes) (RefusesBody bytes)
+unfolding body_from
+body_tells bytes = tells_at bytes (locals_from (beginning bytes)) refl
 
 abbrev IsEither : List ℕ → Type 0
 IsEither bytes = ((body : Body) × SpellsBody bytes body) ⊎ ((fault : Fault) × RefusesBody bytes fault)
 
-either_of : (bytes : List ℕ) (locals : List ValType) (start : Input) → ReadsLocals (beginning bytes) locals start → Leads (first_place start) → IsEither bytes
-either_of bytes locals start reads (inl leads) =
-    let whole = sequence_of leads.0 (first_place start) leads.1 refl leads.4 leads.5 in
-    let P : List Item → Type 0 = λ is. AreCut is (first_place start) leads.1 in
-    let body : Body = record { locals = locals; ops = flat_body whole.0; targets = leads.2 } in
-    inl (
-      body,
-      record {
-        start = start;
-        sequence = whole.0;
-        last = leads.1;
-        after = leads.3;
-        locals = reads;
-        cut = subst P whole.2 leads.4;
-        no_block = leads.5;
-        closed = leads.6;
-        whole = leads.7;
-        nested = whole.1;
-        laid_out = refl;
-      },
-    )
-either_of bytes locals start reads (inr leads) =
-    inr (leads.2, inr record { all = locals; start = start; items = leads.0; here = leads.1; locals = reads; cut = leads.3; refused = leads.4 })
-
-either_at : (bytes : List ℕ) (read : Read (List ValType)) → locals_from (beginning bytes) ≡ read → IsEither bytes
-either_at bytes (Ok read) e =
-    let reads = (locals_decides (beginning bytes)).found read.0 read.1 e in
-    let start = first_place read.1 in
-    either_of bytes read.0 read.1 reads (walk (suc (length read.1.left)) start start [] refl (omega arith))
-either_at bytes (Err fault) e = inr (fault, inl ((locals_decides (beginning bytes)).refused fault e))
+either_of : (bytes : List ℕ) (answer : Result Body Fault) → Tells bytes answer → IsEither bytes
+either_of bytes (Ok body) spells = inl (body, spells)
+either_of bytes (Err fault) refuses = inr (fault, refuses)
 
 pub either : (bytes : List ℕ) → IsEither bytes
-either bytes = either_at bytes (locals_from (beginning bytes)) refl
+either bytes = either_of bytes (body_from bytes) (body_tells bytes)
+
+-- The function answers whatever is spelt, and whatever fault there is.
+
+only_body : (bytes : List ℕ) (body : Body) (answer : Result Body Fault) → SpellsBody bytes body → Tells bytes answer → answer ≡ Ok body
+only_body bytes body (Ok other) spells told = ap (λ (b : Body). let r : Result Body Fault = Ok b in r) (one_body bytes other body told spells)
+only_body bytes body (Err fault) spells told = absurd (body_or_fault bytes body fault spells told)
+
+only_refusal : (bytes : List ℕ) (fault : Fault) (answer : Result Body Fault) → RefusesBody bytes fault → Tells bytes answer → answer ≡ Err fault
+only_refusal bytes fault (Ok body) refuses told = absurd (body_or_fault bytes body fault told refuses)
+only_refusal bytes fault (Err other) refuses told = ap (λ (f : Fault). let r : Result Body Fault = Err f in r) (one_refusal bytes other fault told refuses)
+
+pub body_only : (bytes : List ℕ) (body : Body) → SpellsBody bytes body → body_from bytes ≡ Ok body
+body_only bytes body spells = only_body bytes body (body_from bytes) spells (body_tells bytes)
+
+pub fault_only : (bytes : List ℕ) (fault : Fault) → RefusesBody bytes fault → body_from bytes ≡ Err fault
+fault_only bytes fault refuses = only_refusal bytes fault (body_from bytes) refuses (body_tells bytes)

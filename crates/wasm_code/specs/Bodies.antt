@@ -1,10 +1,11 @@
 -- What bytes spell a body, and with which number and at which place bytes are refused as one (WebAssembly Core 1.0, sections 5.4 and 5.5.13).
-use Rattle.std.specs.Prelude.{◌≡◌, ◌⊎◌, ℕ, List, [], ◌∷◌, ◌++◌, length, Option, Some, None}
+use Rattle.std.specs.Prelude.{◌≡◌, ◌⊎◌, ℕ, suc, zero, List, [], ◌∷◌, ◌++◌, length, Option, Some, None, Result, Ok, Err}
 use Rattle.wasm_ops.specs.declared.faults.Fault.{Fault}
 use Rattle.wasm_ops.specs.declared.faults.Refusal.TheVariants.{CutShort}
 use Rattle.wasm_ops.specs.declared.modules.Body.{Body}
+use Rattle.wasm_ops.specs.declared.operators.Op.TheVariants as op
 use Rattle.wasm_ops.specs.declared.types.ValType.{ValType}
-use Rattle.wasm_ops.specs.Input.{Input}
+use Rattle.wasm_ops.specs.Input.{Input, cut_short}
 use Rattle.wasm_ops.specs.Sequence.{Sequence, Done, Plain, InBlock, InLoop, InIf, InIfElse, IsNested, flat_body}
 use Rattle.wasm_ops.specs.declared.faults.Refusal.TheVariants as refusal
 use Rattle.wasm_ops.specs.Refusals.{fault_at}
@@ -13,8 +14,10 @@ use Rattle.wasm_code.specs.declared.items.Item.TheVariants as item
 use Rattle.wasm_code.specs.declared.items.Opener.TheVariants as opener
 use Rattle.wasm_code.specs.declared.items.Kind.{Kind}
 use Rattle.wasm_code.specs.declared.items.Kind.TheVariants as kind
-use Rattle.wasm_code.specs.Items.{ReadsItem, RefusesItem}
-use Rattle.wasm_code.specs.Locals.{ReadsLocals, RefusesLocals}
+use Rattle.wasm_code.specs.Reading.{Read}
+use Rattle.wasm_code.specs.Items.{Parsed, ReadsItem, RefusesItem, item_from}
+use Rattle.wasm_code.specs.Locals.{ReadsLocals, RefusesLocals, locals_from}
+use Rattle.wasm_code.specs.Laying.{with_items, nothing}
 
 -- the items of a structured sequence in order: what opens a block comes before the items in it, and `end` behind them
 abbrev pub items_of : Sequence → List Item
@@ -112,3 +115,48 @@ pub record RefusesItems (bytes : List ℕ) (fault : Fault) : Type 0 where
 -- the bytes are refused as a body, with the fault's number at its place
 abbrev pub RefusesBody : (bytes : List ℕ) (fault : Fault) → Type 0
 RefusesBody bytes fault = RefusesLocals (beginning bytes) fault ⊎ RefusesItems bytes fault
+
+-- The same as a function.
+
+-- the items of a body with its labels, or the first fault
+abbrev pub Walked : Type 0
+Walked = Result (List Item × List ℕ) Fault
+
+-- where the `end` of the body was read, with what is left behind it
+abbrev pub at_the_end : List Item → (targets : List ℕ) → (after : Input) → (left : List ℕ) → Walked
+at_the_end items targets after [] = Ok (items, targets)
+at_the_end items targets after (byte ∷ rest) = Err (fault_at refusal.RestAfterEnd after.at)
+
+-- behind an item that stands in no open block: it is the body's own `end`, or it is misplaced
+abbrev pub walk_ends : Item → List Item → (here : Place) → (targets : List ℕ) → (after : Input) → Walked
+walk_ends item.End items here targets after = at_the_end items targets after after.left
+walk_ends passed items here targets after = Err (fault_at refusal.BadNesting here.ahead.at)
+
+-- behind an item, where these blocks are open behind it
+abbrev pub walk_behind
+    : Option (List Kind) → Parsed → (after : Input) → List Item → (here : Place) → (next : List Item → Place → Walked) → Walked
+walk_behind (Some blocks) parsed after items here next =
+    next (items ++ parsed.0 ∷ []) (record { blocks = blocks; targets = parsed.1; ahead = after })
+walk_behind None parsed after items here next = walk_ends parsed.0 items here parsed.1 after
+
+abbrev pub walk_at : Read Parsed → List Item → (here : Place) → (next : List Item → Place → Walked) → Walked
+walk_at (Ok read) items here next = walk_behind (open_behind read.0.0 here.blocks) read.0 read.1 items here next
+walk_at (Err fault) items here next = Err fault
+
+-- behind these items, with fewer than so many to come: each of them takes a byte, so the number of bytes that are left is one less than enough
+abbrev pub walk_from : (most : ℕ) → List Item → Place → Walked
+walk_from zero items here = Err (cut_short here.ahead)
+walk_from (suc most) items here =
+    walk_at (item_from (length here.blocks) here.targets here.ahead) items here (λ more there. walk_from most more there)
+
+abbrev pub with_walked : List ValType → Walked → Result Body Fault
+with_walked locals (Ok walked) = Ok (record { locals = locals; ops = (with_items walked.0 nothing).ops ++ op.End ∷ []; targets = walked.1 })
+with_walked locals (Err fault) = Err fault
+
+abbrev pub behind_locals : Read (List ValType) → Result Body Fault
+behind_locals (Ok read) = with_walked read.0 (walk_from (suc (length read.1.left)) [] (first_place read.1))
+behind_locals (Err fault) = Err fault
+
+-- the body that the bytes spell, or the fault that they are refused with
+unfoldable pub body_from : List ℕ → Result Body Fault
+body_from bytes = behind_locals (locals_from (beginning bytes))

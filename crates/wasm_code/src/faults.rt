@@ -1,4 +1,4 @@
-//! Why no body is answered.
+//! Why no body, or no module, is answered.
 ghost use Rattle.std.specs.Prelude.{◌≡◌};
 ghost use Rattle.wasm_code.specs.declared.faults.CodeFault.TheVariants.{Bytes, NoMemory};
 
@@ -6,12 +6,12 @@ use std::alloc::{AllocError, AllocFailed};
 use std::fmt::{self, Display, Formatter, Write};
 use wasm_ops::Fault;
 
-/// Why `read_body` answers no body.
+/// Why a reader answers nothing. It shows itself as what a maker of modules reads of it.
 #[derive(Clone, Copy, Debug, PartialEq, Eq)]
 pub enum CodeFault {
     /// The bytes spell none: the number of the refusal, and its place counted from the first byte.
     ///
-    /// It is one of `CutShort`, `LebTooLong`, `LebSpare`, and those of `Refusal` from `FloatOperator` to `RestAfterEnd`.
+    /// Of `read_body` it is one of `CutShort`, `LebTooLong`, `LebSpare`, and those of `Refusal` from `FloatOperator` to `RestAfterEnd`.
     Bytes(Fault),
 
     /// No memory was left for the answer.

@@ -1,11 +1,11 @@
 -- The bodies of functions are read as their syntaxes have them.
-use Rattle.std.proofs.Common.{◌⊎◌, inl, inr, ℕ, ap, sym, ◌∙◌, subst}
+use Rattle.std.proofs.Common.{ℕ, Result, Ok, Err, MatchResult, ap, sym, ◌∙◌, subst}
 use Rattle.wasm_ops.specs.declared.faults.Fault.{Fault}
 use Rattle.wasm_ops.specs.declared.faults.Refusal.TheVariants.{CutShort, CountsDiffer}
 use Rattle.wasm_ops.specs.declared.modules.Body.{Body}
 use Rattle.wasm_ops.specs.Input.{Input}
-use Rattle.wasm_code.specs.Bodies.{SpellsBody, RefusesBody}
-use Rattle.wasm_code.proofs.BodyLaws.{either, body_or_fault, one_body, one_refusal}
+use Rattle.wasm_code.specs.Bodies.{SpellsBody, RefusesBody, body_from}
+use Rattle.wasm_code.proofs.BodyLaws.{body_tells, body_or_fault, one_body, one_refusal}
 use Rattle.wasm_code.proofs.Decisions.{Decides, read_parts, read_same, fault_same}
 use Rattle.wasm_reader.specs.Syntax.{or_fault}
 use Rattle.wasm_reader.specs.Bodies.{moved, end_place, body_answer, body, sized_body, same_count, bodies}
@@ -14,30 +14,30 @@ use Rattle.wasm_reader.proofs.ItemLaws.{items_decided}
 
 -- whichever of the two the bytes are
 answer_decides
-    : (before : Input) (answer : ((x : Body) × SpellsBody before.left x) ⊎ ((fault : Fault) × RefusesBody before.left fault))
+    : (before : Input) (answer : Result Body Fault) → MatchResult answer (SpellsBody before.left) (RefusesBody before.left)
     → Decides Body (body_answer before.at (end_place before) answer) (body.Reads before) (body.Refuses before)
-answer_decides before (inl spelt) =
+answer_decides before (Ok spelt) spells =
     let bytes = before.left in
     let Spells : Body → Type 0 = SpellsBody bytes in
     record {
-      found = λ x after e. let parts = read_parts spelt.0 x (end_place before) after e in (subst Spells parts.0 spelt.1, sym parts.1);
-      only = λ x after reads. read_same spelt.0 x (end_place before) after (one_body bytes spelt.0 x spelt.1 reads.0) (sym reads.1);
+      found = λ x after e. let parts = read_parts spelt x (end_place before) after e in (subst Spells parts.0 spells, sym parts.1);
+      only = λ x after reads. read_same spelt x (end_place before) after (one_body bytes spelt x spells reads.0) (sym reads.1);
       refused = λ fault e. let bad : ⊥ = cc in absurd bad;
-      only_refused = λ fault refuses. absurd (body_or_fault bytes spelt.0 refuses.0 spelt.1 refuses.1);
+      only_refused = λ fault refuses. absurd (body_or_fault bytes spelt refuses.0 spells refuses.1);
     }
-answer_decides before (inr refused) =
+answer_decides before (Err first) refused_with =
     let bytes = before.left in
     record {
       found = λ x after e. let bad : ⊥ = cc in absurd bad;
-      only = λ x after reads. absurd (body_or_fault bytes x refused.0 reads.0 refused.1);
-      refused = λ fault e. (refused.0, refused.1, cc);
+      only = λ x after reads. absurd (body_or_fault bytes x first reads.0 refused_with);
+      refused = λ fault e. (first, refused_with, cc);
       only_refused = λ fault refuses.
-          let same = one_refusal bytes refused.0 refuses.0 refused.1 refuses.1 in
-          fault_same (moved before.at refused.0) fault (ap (moved before.at) same ∙ sym refuses.2);
+          let same = one_refusal bytes first refuses.0 refused_with refuses.1 in
+          fault_same (moved before.at first) fault (ap (moved before.at) same ∙ sym refuses.2);
     }
 
 pub body_decided : IsDecidedBy body
-body_decided = record { decides = λ before. answer_decides before (either before.left) }
+body_decided = record { decides = λ before. answer_decides before (body_from before.left) (body_tells before.left) }
 
 pub sized_body_decided : IsDecidedBy sized_body
 sized_body_decided = number_decided ⨾⨾ λ size. inside_decided size CutShort body_decided

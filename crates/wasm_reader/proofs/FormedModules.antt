@@ -19,7 +19,7 @@ use Rattle.wasm_ops.specs.Values.{IsOfType}
 use Rattle.wasm_ops.specs.WellFormed.{IsWellFormedBody, IsConstant, IsTableSize, IsImportItem, IsImport, IsFunctionType, IsGlobal, IsExport, IsElementSegment, IsByteSegment, IsWellFormed}
 use Rattle.wasm_code.specs.Bodies.{beginning}
 use Rattle.wasm_code.proofs.FormedBodies.{body_formed}
-use Rattle.wasm_reader.specs.declared.faults.ReadFault.{ReadFault}
+use Rattle.wasm_code.specs.declared.faults.CodeFault.{CodeFault}
 use Rattle.wasm_reader.specs.declared.imports.ImportKind.{ImportKind}
 use Rattle.wasm_reader.specs.declared.imports.ImportKind.TheVariants as kind
 use Rattle.wasm_reader.specs.declared.sections.Part.{Part}
@@ -332,7 +332,7 @@ module_formed bytes m are spells =
     }
 
 pub module_given
-    : (bytes : List ℕ) (result : Result Module ReadFault) → AreBytes bytes → IfOk result (λ parts. SpellsModule bytes parts)
+    : (bytes : List ℕ) (result : Result Module CodeFault) → AreBytes bytes → IfOk result (λ parts. SpellsModule bytes parts)
     → IfOk result (λ parts. IsWellFormed parts)
 module_given bytes (Ok parts) are found = module_formed bytes parts are found
 module_given bytes (Err fault) are found = tt

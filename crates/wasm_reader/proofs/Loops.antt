@@ -3,9 +3,9 @@ use Rattle.std.proofs.Common.{◌≡◌, ℕ, suc, zero, List, [], ◌∷◌, �
 use Rattle.wasm_ops.specs.declared.faults.Fault.{Fault}
 use Rattle.wasm_ops.specs.Input.{Input}
 use Rattle.wasm_code.specs.Reading.{Read, and_then}
-use Rattle.wasm_reader.specs.declared.faults.ReadFault.{ReadFault}
-use Rattle.wasm_reader.specs.declared.faults.ReadFault.TheVariants.{Bytes, NoMemory}
-use Rattle.wasm_reader.specs.Outcome.{IsFaultOf}
+use Rattle.wasm_code.specs.declared.faults.CodeFault.{CodeFault}
+use Rattle.wasm_code.specs.declared.faults.CodeFault.TheVariants.{Bytes, NoMemory}
+use Rattle.wasm_code.specs.Faults.{IsFaultOf}
 use Rattle.wasm_reader.specs.Syntax.{Syntax, items_from, kept, vector_of}
 
 -- the same behind whatever comes first
@@ -32,7 +32,7 @@ item_fails {A} n m item so_far before fault e fails =
 
 -- what a thing answers in place of it is the answer
 pub item_refused
-    : {A : Type 0} (n m : ℕ) (item : List A → Syntax A) (so_far : List A) (before : Input) (all : Read (List A)) (fault : ReadFault) → n ≡ suc m
+    : {A : Type 0} (n m : ℕ) (item : List A → Syntax A) (so_far : List A) (before : Input) (all : Read (List A)) (fault : CodeFault) → n ≡ suc m
     → items_from n item so_far before ≡ all → IsFaultOf fault ((item so_far).read before) → IsFaultOf fault all
 item_refused n m item so_far before all (Bytes fault) e same fails = sym same ∙ item_fails n m item so_far before fault e fails
 item_refused n m item so_far before all NoMemory e same fails = tt

@@ -3,9 +3,9 @@ use Rattle.std.proofs.Common.{◌≡◌, ℕ, suc, zero, ◌<◌, ◌≤◌, Lis
 use Rattle.wasm_ops.specs.declared.faults.Fault.{Fault}
 use Rattle.wasm_ops.specs.Input.{Input}
 use Rattle.wasm_code.specs.Reading.{Read, and_then}
-use Rattle.wasm_reader.specs.declared.faults.ReadFault.{ReadFault}
-use Rattle.wasm_reader.specs.declared.faults.ReadFault.TheVariants.{Bytes, NoMemory}
-use Rattle.wasm_reader.specs.Outcome.{IsFaultOf}
+use Rattle.wasm_code.specs.declared.faults.CodeFault.{CodeFault}
+use Rattle.wasm_code.specs.declared.faults.CodeFault.TheVariants.{Bytes, NoMemory}
+use Rattle.wasm_code.specs.Faults.{IsFaultOf}
 use Rattle.wasm_reader.specs.Syntax.{Syntax, goes_on, steps_from}
 
 -- so many steps from here are enough, and they are those of the whole
@@ -57,7 +57,7 @@ step_fails {A} step x here whole fault (suc bound) enough same some fails =
     sym same ∙ more ∙ one
 
 pub section_refused
-    : {A : Type 0} (step : A → Syntax A) (x : A) (here : Input) (whole : Read A) (fault : ReadFault)
+    : {A : Type 0} (step : A → Syntax A) (x : A) (here : Input) (whole : Read A) (fault : CodeFault)
     → StepsLeft step x here whole → (here.left ≡ [] → ⊥) → IsFaultOf fault ((step x).read here) → IsFaultOf fault whole
 section_refused step x here whole (Bytes fault) left some fails = step_fails step x here whole fault left.bound left.enough left.same some fails
 section_refused step x here whole NoMemory left some fails = tt

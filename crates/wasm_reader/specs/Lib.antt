@@ -2,7 +2,6 @@ pub mod Bodies
 pub mod Contents
 pub mod Imports
 pub mod Modules
-pub mod Outcome
 pub mod Parts
 pub mod Sections
 pub mod Structure

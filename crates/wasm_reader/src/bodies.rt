@@ -2,15 +2,14 @@
 ghost use Rattle.std.specs.Prelude.{◌≡◌, ◌+◌, ◌<◌, ◌^◌, [], length};
 ghost use Rattle.wasm_ops.specs.declared.faults.Refusal.TheVariants.{CountsDiffer, CutShort};
 ghost use Rattle.wasm_ops.specs.Input.{Input};
-ghost use Rattle.wasm_code.specs.Faults.{Tells};
+ghost use Rattle.wasm_code.specs.Faults.{Gives, Tells};
 ghost use Rattle.wasm_reader.specs.Bodies.{body as body_syntax, end_place, from_place, same_count, sized_body};
-ghost use Rattle.wasm_reader.specs.Outcome.{Gives};
 ghost use Rattle.wasm_reader.specs.Syntax.{checked, number, or_fault};
 
-use crate::faults::ReadFault;
+use crate::ReadFault;
 use crate::vectors::ItemKind;
 use std::alloc::Global;
-use wasm_code::{CodeFault, read_body};
+use wasm_code::read_body;
 use wasm_ops::{Body, Cursor, Fault, Refusal};
 
 /// Bodies, each behind its size.
@@ -51,10 +50,10 @@ fn body(alloc: Global, at: u32, bytes: &[u8]) -> Result<Body, ReadFault>
 {
     match read_body(alloc, bytes) {
         Ok(body) => Ok(body),
-        Err(CodeFault::Bytes(fault)) => Err(ReadFault::Bytes(Fault {
+        Err(ReadFault::Bytes(fault)) => Err(ReadFault::Bytes(Fault {
             number: fault.number,
             place: at + fault.place,
         })),
-        Err(CodeFault::NoMemory) => Err(ReadFault::NoMemory),
+        Err(ReadFault::NoMemory) => Err(ReadFault::NoMemory),
     }
 }

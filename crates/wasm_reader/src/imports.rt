@@ -1,13 +1,12 @@
 //! Imports (WebAssembly Core 1.0, section 5.5.5).
 ghost use Rattle.std.specs.Prelude.{◌≡◌, ◌+◌, ◌<◌, ◌^◌, true, IfOk};
 ghost use Rattle.wasm_ops.specs.Limits.{imported_functions, imported_globals};
-ghost use Rattle.wasm_code.specs.Faults.{Tells};
+ghost use Rattle.wasm_code.specs.Faults.{Gives, Tells};
 ghost use Rattle.wasm_reader.specs.Contents.{has_room, import_behind, import_item as import_item_syntax, import_kind as import_kind_syntax, imports as imports_syntax, kind_of};
 ghost use Rattle.wasm_reader.specs.Imports.{functions_of, globals_of, kind_of_import, none_imported, with_import, with_kind};
-ghost use Rattle.wasm_reader.specs.Outcome.{Gives};
 ghost use Rattle.wasm_reader.specs.Syntax.{Syntax};
 
-use crate::faults::ReadFault;
+use crate::ReadFault;
 use crate::items::owned_name;
 use crate::parts::{memory, mutability, table};
 use crate::vectors::{ItemKind, vector};

@@ -1,12 +1,11 @@
 //! What the vectors of a module are made of, but for imports and bodies (WebAssembly Core 1.0, sections 5.3, 5.5.4, 5.5.6 to 5.5.10, 5.5.12 and 5.5.14).
 ghost use Rattle.wasm_ops.specs.declared.faults.Refusal.TheVariants.{BadKind};
-ghost use Rattle.wasm_code.specs.Faults.{Tells};
+ghost use Rattle.wasm_code.specs.Faults.{Gives, Tells};
 ghost use Rattle.wasm_reader.specs.Contents.{as_kind, element as element_syntax, export as export_syntax, global as global_syntax, segment as segment_syntax};
-ghost use Rattle.wasm_reader.specs.Outcome.{Gives};
 ghost use Rattle.wasm_reader.specs.Parts.{function_type as function_type_syntax, memory as memory_syntax, name as name_syntax, result_type as result_type_syntax, table as table_syntax, value_type as value_type_syntax};
 ghost use Rattle.wasm_reader.specs.Syntax.{byte, checked, number, or_fault};
 
-use crate::faults::ReadFault;
+use crate::ReadFault;
 use crate::parts::{constant, count, memory, mutability, table, tag};
 use crate::vectors::{ItemKind, vector, vector_within};
 use std::alloc::Global;

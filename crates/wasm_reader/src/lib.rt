@@ -6,7 +6,6 @@
 #![tactic(auto)]
 
 mod bodies;
-mod faults;
 mod imports;
 mod items;
 pub mod laws;
@@ -15,8 +14,9 @@ mod parts;
 mod sections;
 mod vectors;
 
-pub use faults::ReadFault;
 pub use modules::{MOST_BYTES, read_module};
+/// Why `read_module` answers no module: the places are counted from the file's first byte, and the refusal is any of `Refusal`.
+pub use wasm_code::CodeFault as ReadFault;
 
 #[cfg(test)]
 mod tests;

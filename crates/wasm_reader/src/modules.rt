@@ -6,13 +6,12 @@ ghost use Rattle.wasm_ops.specs.declared.modules.Module.{Module as ModuleValue};
 ghost use Rattle.wasm_ops.specs.Input.{Input};
 ghost use Rattle.wasm_ops.specs.WellFormed.{IsWellFormed};
 ghost use Rattle.wasm_code.specs.Bodies.{beginning};
-ghost use Rattle.wasm_code.specs.Faults.{Tells};
+ghost use Rattle.wasm_code.specs.Faults.{Gives, GivesValue, GivesFault, IsAmong, Tells};
 ghost use Rattle.wasm_reader.specs.Modules.{SpellsModule, RefusesModule, complete, header as header_syntax, opens_with as opens_with_syntax, whole_module};
-ghost use Rattle.wasm_reader.specs.Outcome.{Gives, GivesValue, GivesFault, IsAmong};
 ghost use Rattle.wasm_reader.specs.Sections.{one_section};
 ghost use Rattle.wasm_reader.specs.Syntax.{checked, pure, or_fault, to_end};
 
-use crate::faults::ReadFault;
+use crate::ReadFault;
 use crate::sections::{Progress, read_section};
 use std::alloc::Global;
 use wasm_ops::{Cursor, Fault, Module, Refusal};

@@ -1,12 +1,11 @@
 //! The sections of a module, in their order (WebAssembly Core 1.0, sections 5.5.2 and 5.5.3).
 ghost use Rattle.std.specs.Prelude.{◌≡◌};
-ghost use Rattle.wasm_code.specs.Faults.{Tells};
+ghost use Rattle.wasm_code.specs.Faults.{Gives, Tells};
 ghost use Rattle.wasm_reader.specs.Modules.{at_start};
-ghost use Rattle.wasm_reader.specs.Outcome.{Gives};
 ghost use Rattle.wasm_reader.specs.Sections.{id_of, is_behind, one_section, part_of, rising, section_content as section_content_syntax, section_id as section_id_syntax, section_of};
 
+use crate::ReadFault;
 use crate::bodies::{Bodies, body_count};
-use crate::faults::ReadFault;
 use crate::imports::{Imported, MOST_FUNCTIONS, MOST_GLOBALS, imports};
 use crate::items::{
     DataSegments, ElementSegments, Exports, FunctionTypes, Globals, Indices, Memories, Tables,

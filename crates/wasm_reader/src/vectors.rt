@@ -1,9 +1,9 @@
 //! Vectors (WebAssembly Core 1.0, section 5.1.3).
 ghost use Rattle.std.specs.Prelude.{◌≡◌, [], IfOk};
-ghost use Rattle.wasm_reader.specs.Outcome.{Gives};
+ghost use Rattle.wasm_code.specs.Faults.{Gives};
 ghost use Rattle.wasm_reader.specs.Syntax.{Syntax, items_from, kept, limited, number, vector_of, ◌⨾◌};
 
-use crate::faults::ReadFault;
+use crate::ReadFault;
 use crate::parts::count;
 use std::alloc::Global;
 use wasm_ops::Cursor;

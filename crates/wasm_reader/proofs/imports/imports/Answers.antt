@@ -2,7 +2,7 @@
 use Rattle.std.proofs.Common.{List, subst}
 use Rattle.wasm_ops.specs.declared.modules.Import.{Import}
 use Rattle.wasm_code.specs.Reading.{Read}
-use Rattle.wasm_reader.specs.Outcome.{Gives}
+use Rattle.wasm_code.specs.Faults.{Gives}
 use Rattle.wasm_reader.proofs.ImportCounts.{imports_same}
 use Rattle.wasm_reader.proofs.imports.imports.Goals as goal
 

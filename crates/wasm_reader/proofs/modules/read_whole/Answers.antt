@@ -3,7 +3,7 @@ use Rattle.std.proofs.Common.{subst, arith}
 use Rattle.wasm_ops.specs.Input.{Input}
 use Rattle.wasm_code.proofs.BodyAnswers.{begun}
 use Rattle.wasm_reader.specs.Modules.{whole_module}
-use Rattle.wasm_reader.specs.Outcome.{Gives}
+use Rattle.wasm_code.specs.Faults.{Gives}
 use Rattle.wasm_reader.proofs.modules.read_whole.Goals as goal
 
 pub returns : goal.returns

@@ -1,0 +1,11 @@
+pub mod Grows
+pub mod Effects
+pub mod Functions
+pub mod Walks
+pub mod Blocks
+pub mod Plains
+pub mod Branches
+pub mod Calls
+pub mod Heights
+pub mod Entries
+pub mod FirstStates

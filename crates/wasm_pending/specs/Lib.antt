@@ -1,0 +1,4 @@
+pub mod Frames
+pub mod Goals
+pub mod Steps
+pub mod Typed

@@ -1,0 +1,17 @@
+pub mod BlockMoves
+pub mod BranchMoves
+pub mod CallMoves
+pub mod ChainLaws
+pub mod CodeLaws
+pub mod ControlMoves
+pub mod EntryMoves
+pub mod Fresh
+pub mod FunctionCalls
+pub mod HostMoves
+pub mod Inversions
+pub mod LeaveLaws
+pub mod Moving
+pub mod Places
+pub mod RunLaws
+pub mod SpendingLaws
+pub mod StateLaws

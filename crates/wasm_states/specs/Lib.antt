@@ -1,0 +1,9 @@
+pub mod Blocks
+pub mod Calling
+pub mod Chains
+pub mod Codes
+pub mod Holding
+pub mod HostCalls
+pub mod Leaving
+pub mod Running
+pub mod Steps

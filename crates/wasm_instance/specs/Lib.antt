@@ -1,0 +1,4 @@
+pub mod Callees
+pub mod Keys
+pub mod Outcome
+pub mod Tabled

@@ -1,0 +1,10 @@
+pub mod CallSteps
+pub mod CellLaws
+pub mod ControlArms
+pub mod EntryArms
+pub mod Going
+pub mod MemoryMoves
+pub mod NumericMoves
+pub mod Shapes
+pub mod StepLaws
+pub mod VariableMoves

@@ -1,0 +1,166 @@
+-- From what each operator does to what a whole step means.
+use Rattle.std.proofs.Common.{◌≡◌, ℕ, ◌+◌, ◌-◌, ◌<◌, ◌≤◌, Bool, true, Option, Some, None, is_some, refl, sym, ap, subst, ◌∙◌, arith}
+use Rattle.wasm_ops.specs.declared.host_calls.HostName.{HostName}
+use Rattle.wasm_ops.specs.declared.operators.Op.{Op}
+use Rattle.wasm_ops.specs.declared.operators.Op.TheVariants as op
+use Rattle.wasm_ops.specs.Sequence.{Sequence, Done, Plain, InBlock, InLoop, InIf, InIfElse}
+use Rattle.wasm_meaning.specs.Pending.{Pending}
+use Rattle.wasm_meaning.specs.Programs.{Program}
+use Rattle.wasm_store.specs.View.{View}
+use Rattle.wasm_states.specs.Codes.{operator_at, op_at}
+use Rattle.wasm_states.specs.Holding.{Holds, IsState}
+use Rattle.wasm_states.specs.Steps.{Lacks}
+use Rattle.wasm_states.proofs.Inversions.{IsCloser, Place, done_closes}
+use Rattle.wasm_states.proofs.Places.{op_there, place_fits}
+use Rattle.wasm_states.proofs.SpendingLaws.{HasOperator, operator_pays, is_short}
+use Rattle.wasm_states.proofs.StateLaws.{IsNoEnd, place_of, running_of, kept_state, moves_few}
+use Rattle.wasm_step.specs.Arms.{before, IsAt, Acts}
+use Rattle.wasm_step.specs.Arguments.{Asks}
+use Rattle.wasm_step.specs.Asking.{asked_by, Asking}
+use Rattle.wasm_step.specs.Does.{Ends, Calls, IsPriced, Shorts, Does}
+use Rattle.wasm_step.specs.Means.{Keeps, Means}
+use Rattle.wasm_step.specs.declared.answers.Step.{Step}
+use Rattle.wasm_step.specs.declared.answers.Step.TheVariants as step
+
+-- Kinds of operators.
+
+pub acts_do : (p : Program) (v v' : View) (answer : Step) → Acts p v v' answer → Does p 1 v v' answer
+acts_do p v v' (step.Went price) acts = (omega (arith, acts.0), omega (arith, acts.0), acts.1)
+acts_do p v v' (step.Trapped trap price) acts = (omega (arith, acts.0), acts.1)
+acts_do p v v' step.Free acts = absurd acts
+acts_do p v v' (step.Host call) acts = absurd acts
+acts_do p v v' step.Ended acts = absurd acts
+acts_do p v v' step.Short acts = absurd acts
+
+pub ends_do : (p : Program) (most : ℕ) (v v' : View) (answer : Step) → Ends p v v' answer → Does p most v v' answer
+ends_do p most v v' (step.Went price) ends = absurd ends
+ends_do p most v v' (step.Trapped trap price) ends = (omega (arith, ends.0), ends.1)
+ends_do p most v v' step.Free ends = ends
+ends_do p most v v' (step.Host call) ends = absurd ends
+ends_do p most v v' step.Ended ends = ends
+ends_do p most v v' step.Short ends = absurd ends
+
+pub calls_do : (p : Program) (v v' : View) (answer : Step) → Calls p v v' answer → Does p 1 v v' answer
+calls_do p v v' (step.Went price) calls = (omega (arith, calls.0), omega (arith, calls.0), calls.1)
+calls_do p v v' (step.Trapped trap price) calls = (omega (arith, calls.0), calls.1)
+calls_do p v v' step.Free calls = absurd calls
+calls_do p v v' (step.Host call) calls = calls
+calls_do p v v' step.Ended calls = absurd calls
+calls_do p v v' step.Short calls = absurd calls
+
+-- Whole steps.
+
+pub keeps_of : (p : Program) (v v' : View) (most left : ℕ) (answer : Step) → IsState p v → most ≤ left → Does p most v v' answer → Keeps p v left v' answer
+keeps_of p v v' most left (step.Went price) state le does =
+    let after = kept_state p v v' price state does.2 in
+    record { least = does.0; within = omega (arith, le, does.1); state = after; few = moves_few p v' after }
+keeps_of p v v' most left step.Free state le does =
+    let after = kept_state p v v' 0 state does.0 in
+    record { state = after; fewer = does.1; few = moves_few p v' after }
+keeps_of p v v' most left (step.Host call) state le does = (does.0, does.1.can)
+keeps_of p v v' most left (step.Trapped trap price) state le does = omega (arith, le, does.0)
+keeps_of p v v' most left step.Ended state le does = does.0
+keeps_of p v v' most left step.Short state le does = does.1
+
+pub means_of
+    : (p : Program) (v v' : View) (most left : ℕ) (answer : Step) → (most ≡ 0 → left ≡ 0) → Does p most v v' answer → (w : Pending) → Holds p v w → Means p w v left v' answer
+means_of p v v' most left (step.Went price) nothing does w h = does.2.moves w h
+means_of p v v' most left step.Free nothing does w h = does.0.moves w h
+means_of p v v' most left (step.Host call) nothing does w h = does.1.calls w h
+means_of p v v' most left (step.Trapped trap price) nothing does w h = does.1.stops w h
+means_of p v v' most left step.Ended nothing does w h = does.1.stops w h
+means_of p v v' most left step.Short nothing does w h =
+    let both = does.2.each w h in
+    (both.0, subst (λ (l : ℕ). Lacks p w l) (sym (nothing does.0)) both.1)
+
+pub asking_of : (p : Program) (v v' : View) (most : ℕ) (answer : Step) → Does p most v v' answer → Asking p v answer
+asking_of p v v' most (step.Went price) does = tt
+asking_of p v v' most step.Free does = tt
+asking_of p v v' most (step.Host call) does = does.2
+asking_of p v v' most (step.Trapped trap price) does = tt
+asking_of p v v' most step.Ended does = tt
+asking_of p v v' most step.Short does = does.3
+
+-- the same, told of an equal vessel
+pub does_as : (p : Program) (most : ℕ) (u v v' : View) (answer : Step) → u ≡ v → Does p most u v' answer → Does p most v v' answer
+does_as p most u v v' answer e does = subst (λ (x : View). Does p most x v' answer) e does
+
+pub before_is : (v u : View) (place : ℕ) → place ≡ v.place → u ≡ record v { place = place + 1 } → before u ≡ v
+before_is v u place e f =
+    let back : place + 1 - 1 ≡ v.place = omega (arith, e) in
+    ap (λ (x : View). before x) f ∙ ap (λ (k : ℕ). record v { place = k }) back
+
+-- the code goes past the operator
+pub passed_at : (p : Program) (v u : View) (o : Op) (place : ℕ) → IsState p v → op_at p v ≡ Some o → place ≡ v.place → u ≡ record v { place = place + 1 } → IsAt p u o
+passed_at p v u o place state at e f =
+    let same : before u ≡ v = before_is v u place e f in
+    record {
+      passed = subst (λ (x : View). 1 ≤ x.place) (sym f) (omega arith);
+      here = ap (λ (x : View). op_at p x) same ∙ at;
+      state = subst (λ (x : View). IsState p x) (sym same) state;
+    }
+
+-- With nothing left.
+
+begun : (s : Sequence) → (s ≡ Done → ⊥) → HasOperator s
+begun Done not_done = not_done refl
+begun (Plain o rest) not_done = tt
+begun (InBlock t body rest) not_done = tt
+begun (InLoop t body rest) not_done = tt
+begun (InIf t inner rest) not_done = tt
+begun (InIfElse t inner other rest) not_done = tt
+
+no_end_of : (o : Op) → (IsCloser o → ⊥) → IsNoEnd o
+no_end_of op.End goes_on = goes_on tt
+no_end_of o goes_on = tt
+
+pub shorts_at : (p : Program) (v : View) (o : Op) → op_at p v ≡ Some o → (IsCloser o → ⊥) → Shorts p v
+shorts_at p v o at goes_on = record {
+  each = λ w h.
+      let r = running_of p v w o h at (no_end_of o goes_on) in
+      let here = place_of p v w r o at in
+      let has = begun w.sequence (λ e. goes_on (done_closes r.code.body.ops v.place o (subst (λ (s : Sequence). Place r.code.body.ops v.place s o) e here))) in
+      (operator_pays p w.sequence w.around w.state has, is_short p w.sequence w.around w.state has);
+}
+
+goes_on_of : (o : Op) → IsPriced o → IsCloser o → ⊥
+goes_on_of op.End priced closer = priced
+goes_on_of (op.Else end) priced closer = priced
+goes_on_of o priced closer = closer
+
+pub short_back
+    : (p : Program) (v v' : View) (o : Op) → IsAt p v o → IsPriced o → asked_by p (before v) (Some o) ≡ None → v' ≡ before v → Does p 0 (before v) v' step.Short
+short_back p v v' o at priced quiet e =
+    (refl, e, shorts_at p (before v) o at.here (goes_on_of o priced), ap (λ (x : Option Op). asked_by p (before v) x) at.here ∙ quiet)
+
+pub priced_of : (o : Op) → (o ≡ op.End → ⊥) → ((end : ℕ) → o ≡ op.Else end → ⊥) → IsPriced o
+priced_of op.End not_end not_else = not_end refl
+priced_of (op.Else end) not_end not_else = not_else end refl
+priced_of o not_end not_else = tt
+
+-- a call of the host costs nothing yet
+pub host_does : (p : Program) (u v v' : View) (name : HostName) (indirect : Bool) (answer : Step) → Asks v name indirect v' answer → Calls p u v' answer → Does p 0 u v' answer
+host_does p u v v' name indirect (step.Host call) asked calls = calls
+host_does p u v v' name indirect (step.Went price) asked calls = absurd asked
+host_does p u v v' name indirect (step.Trapped trap price) asked calls = absurd asked
+host_does p u v v' name indirect step.Free asked calls = absurd asked
+host_does p u v v' name indirect step.Ended asked calls = absurd asked
+host_does p u v v' name indirect step.Short asked calls = absurd asked
+
+-- the operator that runs next is there
+pub operator_found : (p : Program) (v : View) (function place : ℕ) → IsState p v → function ≡ v.function → place ≡ v.place → is_some (operator_at p.linked function place) ≡ true
+operator_found p v function place state e f =
+    subst (λ (j : ℕ). is_some (operator_at p.linked j place) ≡ true) (sym e) (subst (λ (k : ℕ). is_some (operator_at p.linked v.function k) ≡ true) (sym f) (op_there p v state))
+
+pub op_found : (p : Program) (v : View) (function place : ℕ) (o : Op) → function ≡ v.function → place ≡ v.place → operator_at p.linked function place ≡ Some o → op_at p v ≡ Some o
+op_found p v function place o e f found =
+    ap (λ (j : ℕ). operator_at p.linked j v.place) (sym e) ∙ ap (λ (k : ℕ). operator_at p.linked function k) (sym f) ∙ found
+
+pub next_fits : (p : Program) (v : View) (o : Op) (place : ℕ) → IsState p v → op_at p v ≡ Some o → place ≡ v.place → place + 1 < 4294967296
+next_fits p v o place state at e = let fits = place_fits p v o state at in omega (arith, fits, e)
+
+-- an operator that is no call asks nothing of the host
+pub quiet_of : (p : Program) (v : View) (o : Op) → ((index : ℕ) → o ≡ op.Call index → ⊥) → ((type : ℕ) → o ≡ op.CallIndirect type → ⊥) → asked_by p v (Some o) ≡ None
+quiet_of p v (op.Call index) no_call no_indirect = absurd (no_call index refl)
+quiet_of p v (op.CallIndirect type) no_call no_indirect = absurd (no_indirect type refl)
+quiet_of p v o no_call no_indirect = refl

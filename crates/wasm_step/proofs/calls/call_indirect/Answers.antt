@@ -1,0 +1,15 @@
+use Rattle.std.proofs.Common.{Some, refl, sym, ap, ◌∙◌}
+use Rattle.wasm_step.proofs.CallSteps.{indirect_some, indirect_small, undefined_stops, uninitialized_stops}
+use Rattle.wasm_step.proofs.calls.call_indirect.Goals as goal
+
+pub operand-requires : goal.operand-requires
+operand-requires c = indirect_some c.args.program.now c.args.vessel.now c.args.type_index c.requires.at
+
+pub overflow_cast-operand : goal.overflow_cast-operand
+overflow_cast-operand c = record { fits = indirect_small c.args.program.now c.args.vessel.now c.args.type_index c.requires.at c.operand.result c.operand.ensures }
+
+pub returns-in-None-clause-calls : goal.returns-in-None-clause-calls
+returns-in-None-clause-calls c = (refl, undefined_stops c.args.program.now c.args.vessel.now c.args.type_index c.requires.at c.operand.result c.operand.ensures (sym c.element.ensures ∙ c.in-None.is))
+
+pub returns-in-Some-None-clause-calls : goal.returns-in-Some-None-clause-calls
+returns-in-Some-None-clause-calls c = (refl, uninitialized_stops c.args.program.now c.args.vessel.now c.args.type_index c.requires.at c.operand.result c.operand.ensures (sym c.element.ensures ∙ c.in-Some-None.is ∙ ap Some c.in-Some-None.field-0-is))

@@ -1,0 +1,31 @@
+use Rattle.std.proofs.Common.{arith}
+use Rattle.wasm_step.specs.Arms.{before}
+use Rattle.wasm_step.proofs.StepLaws.{operator_found, op_found, next_fits, passed_at, before_is, does_as, keeps_of, means_of, asking_of}
+use Rattle.wasm_step.proofs.steps.step.Goals as goal
+
+pub returns-then-left-eq0-clause-asks : goal.returns-then-left-eq0-clause-asks
+returns-then-left-eq0-clause-asks c = asking_of c.args.program.now c.args.vessel.now c.step_for_nothing.new.vessel 0 c.step_for_nothing.result c.step_for_nothing.ensures.does
+
+pub returns-clause-asks : goal.returns-clause-asks
+returns-clause-asks c = asking_of c.args.program.now c.args.vessel.now c.act.new.vessel 1 c.act.result (does_as c.args.program.now 1 (before c.go_to.new.self) c.args.vessel.now c.act.new.vessel c.act.result (before_is c.args.vessel.now c.go_to.new.self c.place-place.result c.place-place.ensures c.go_to.ensures) c.act.ensures.does)
+
+pub returns-then-left-eq0-clause-keeps : goal.returns-then-left-eq0-clause-keeps
+returns-then-left-eq0-clause-keeps c = keeps_of c.args.program.now c.args.vessel.now c.step_for_nothing.new.vessel 0 c.args.left c.step_for_nothing.result c.requires.state (omega arith) c.step_for_nothing.ensures.does
+
+pub operator-operator-requires : goal.operator-operator-requires
+operator-operator-requires c = record { there = operator_found c.args.program.now c.args.vessel.now c.function.result c.place-place.result c.requires.state c.function.ensures c.place-place.ensures }
+
+pub overflow_add-place : goal.overflow_add-place
+overflow_add-place c = record { fits = next_fits c.args.program.now c.args.vessel.now c.operator-operator.result c.place-place.result c.requires.state (op_found c.args.program.now c.args.vessel.now c.function.result c.place-place.result c.operator-operator.result c.function.ensures c.place-place.ensures c.operator-operator.ensures) c.place-place.ensures }
+
+pub act-requires : goal.act-requires
+act-requires c = record { at = passed_at c.args.program.now c.args.vessel.now c.go_to.new.self c.operator-operator.result c.place-place.result c.requires.state (op_found c.args.program.now c.args.vessel.now c.function.result c.place-place.result c.operator-operator.result c.function.ensures c.place-place.ensures c.operator-operator.ensures) c.place-place.ensures c.go_to.ensures }
+
+pub returns-then-left-eq0-clause-means : goal.returns-then-left-eq0-clause-means
+returns-then-left-eq0-clause-means c = means_of c.args.program.now c.args.vessel.now c.step_for_nothing.new.vessel 0 c.args.left c.step_for_nothing.result (λ e. c.if-left-eq0.true) c.step_for_nothing.ensures.does
+
+pub returns-clause-keeps : goal.returns-clause-keeps
+returns-clause-keeps c = keeps_of c.args.program.now c.args.vessel.now c.act.new.vessel 1 c.args.left c.act.result c.requires.state (omega (arith, c.if-left-eq0.false)) (does_as c.args.program.now 1 (before c.go_to.new.self) c.args.vessel.now c.act.new.vessel c.act.result (before_is c.args.vessel.now c.go_to.new.self c.place-place.result c.place-place.ensures c.go_to.ensures) c.act.ensures.does)
+
+pub returns-clause-means : goal.returns-clause-means
+returns-clause-means c = means_of c.args.program.now c.args.vessel.now c.act.new.vessel 1 c.args.left c.act.result (λ e. let bad : ⊥ = omega (arith, e) in absurd bad) (does_as c.args.program.now 1 (before c.go_to.new.self) c.args.vessel.now c.act.new.vessel c.act.result (before_is c.args.vessel.now c.go_to.new.self c.place-place.result c.place-place.ensures c.go_to.ensures) c.act.ensures.does)

@@ -1,0 +1,5 @@
+pub mod Arguments
+pub mod Arms
+pub mod Asking
+pub mod Does
+pub mod Means

@@ -1,0 +1,40 @@
+-- What a step answers, in words of what is pending: what its caller can rely on by itself, and what it means for each pending that the vessel has before it.
+use Rattle.std.specs.Prelude.{◌≡◌, ℕ, ◌≤◌, ◌<◌, ◌^◌}
+use Rattle.wasm_meaning.specs.Pending.{Pending}
+use Rattle.wasm_meaning.specs.Programs.{Program}
+use Rattle.wasm_meaning.specs.State.{Fell, Trapped}
+use Rattle.wasm_store.specs.View.{View}
+use Rattle.wasm_states.specs.Holding.{IsState, free_moves}
+use Rattle.wasm_states.specs.HostCalls.{CanCall, Calls}
+use Rattle.wasm_states.specs.Steps.{RunsOut, Reaches, Pays, Lacks}
+use Rattle.wasm_step.specs.declared.answers.Step.{Step}
+use Rattle.wasm_step.specs.declared.answers.Step.TheVariants as step
+
+-- an operator was paid out of what is left, and the vessel is a state again
+pub record Costs (p : Program) (left : ℕ) (v' : View) (price : ℕ) : Type 0 where
+  pub least : 1 ≤ price
+  pub within : price ≤ left
+  pub state : IsState p v'
+  pub few : free_moves v' < 2 ^ 32
+
+-- a move for nothing leaves fewer of them
+pub record IsFree (p : Program) (v v' : View) : Type 0 where
+  pub state : IsState p v'
+  pub fewer : free_moves v' < free_moves v
+  pub few : free_moves v' < 2 ^ 32
+
+abbrev pub Keeps : Program → (v : View) (left : ℕ) (v' : View) → Step → Type 0
+Keeps p v left v' (step.Went price) = Costs p left v' price
+Keeps p v left v' step.Free = IsFree p v v'
+Keeps p v left v' (step.Host call) = (v' ≡ v) × CanCall call v
+Keeps p v left v' (step.Trapped trap price) = price ≤ left
+Keeps p v left v' step.Ended = v' ≡ v
+Keeps p v left v' step.Short = v' ≡ v
+
+abbrev pub Means : Program → Pending → (v : View) (left : ℕ) (v' : View) → Step → Type 0
+Means p w v left v' (step.Went price) = Reaches p w price v'
+Means p w v left v' step.Free = Reaches p w 0 v'
+Means p w v left v' (step.Host call) = Calls p w v call
+Means p w v left v' (step.Trapped trap price) = RunsOut p w price (Trapped trap)
+Means p w v left v' step.Ended = RunsOut p w 0 Fell
+Means p w v left v' step.Short = Pays p w × Lacks p w left

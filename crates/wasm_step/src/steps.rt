@@ -1,0 +1,89 @@
+//! One step of a running function.
+ghost use Rattle.std.specs.Prelude.{◌≡◌};
+ghost use Rattle.wasm_meaning.specs.Pending.{Pending};
+ghost use Rattle.wasm_states.specs.Holding.{Holds, IsState};
+ghost use Rattle.wasm_step.specs.Arms.{IsAt, before};
+ghost use Rattle.wasm_step.specs.Asking.{Asking};
+ghost use Rattle.wasm_step.specs.Does.{Does};
+ghost use Rattle.wasm_step.specs.Means.{Keeps, Means};
+
+use crate::answers::Step;
+use crate::calls::{call, call_indirect};
+use crate::control::{br, br_if, br_table, end, go_past, leave, open_block, open_if, open_loop};
+use crate::memory::{load, memory_grow, memory_size, store};
+use crate::nothing::step_for_nothing;
+use crate::numeric::{
+    binary, const_i32, const_i64, drop_operand, nop, select, unary, unreachable_operator,
+};
+use crate::variables::{global_get, global_set, local_get, local_set, local_tee};
+use wasm_instance::Program;
+use wasm_ops::Op;
+use wasm_store::Vessel;
+
+/// Runs one operator of a program, or moves on for nothing: at the end of a block or of a function, and where the start function or `_start` is entered (WebAssembly Core 1.0, chapter 4).
+///
+/// `left` is how many units may still be spent. An operator that costs more changes nothing and answers `Short`.
+/// A call of the host changes nothing: who steps carries it out, and then goes on with the vessel. Units are this project's own.
+#[inline(always)]
+pub fn step(program: &Program, vessel: &mut Vessel, left: u64) -> Step
+    requires state { IsState program.now vessel.old }
+    ensures keeps { Keeps program.now vessel.old left vessel.new result }
+    ensures means { (w : Pending) → Holds program.now vessel.old w → Means program.now w vessel.old left vessel.new result }
+    ensures asks { Asking program.now vessel.old result }
+    ensures pages { vessel.new.pages ≡ vessel.old.pages }
+{
+    if left == 0 {
+        return step_for_nothing(program, vessel);
+    }
+    let place = vessel.place();
+    let operator = program.operator(vessel.function(), place);
+    vessel.go_to(place + 1);
+    act(program, vessel, operator)
+}
+
+// Runs an operator, behind which the code stands.
+#[inline(always)]
+fn act(program: &Program, vessel: &mut Vessel, operator: Op) -> Step
+    requires at { IsAt program.now vessel.old operator }
+    ensures does { Does program.now 1 (before vessel.old) vessel.new result }
+    ensures pages { vessel.new.pages ≡ vessel.old.pages }
+{
+    match operator {
+        Op::LocalGet(index) => local_get(program, vessel, index),
+        Op::LocalSet(index) => local_set(program, vessel, index),
+        Op::LocalTee(index) => local_tee(program, vessel, index),
+        Op::ConstI32(number) => const_i32(program, vessel, number),
+        Op::ConstI64(number) => const_i64(program, vessel, number),
+        Op::Binary(operator) => binary(program, vessel, operator),
+        Op::Unary(operator) => unary(program, vessel, operator),
+        Op::Load {
+            access,
+            align,
+            offset,
+        } => load(program, vessel, access, align, offset),
+        Op::Store {
+            access,
+            align,
+            offset,
+        } => store(program, vessel, access, align, offset),
+        Op::Drop => drop_operand(program, vessel),
+        Op::Select => select(program, vessel),
+        Op::GlobalGet(index) => global_get(program, vessel, index),
+        Op::GlobalSet(index) => global_set(program, vessel, index),
+        Op::MemorySize => memory_size(program, vessel),
+        Op::MemoryGrow => memory_grow(program, vessel),
+        Op::Nop => nop(program, vessel),
+        Op::Unreachable => unreachable_operator(program, vessel),
+        Op::Block { result, end } => open_block(program, vessel, result, end),
+        Op::Loop { result, end } => open_loop(program, vessel, result, end),
+        Op::If { result, other, end } => open_if(program, vessel, result, other, end),
+        Op::Else { end } => go_past(program, vessel, end),
+        Op::End => end(program, vessel),
+        Op::Br(label) => br(program, vessel, label),
+        Op::BrIf(label) => br_if(program, vessel, label),
+        Op::BrTable { from, count } => br_table(program, vessel, from, count),
+        Op::Return => leave(program, vessel),
+        Op::Call(index) => call(program, vessel, index),
+        Op::CallIndirect(type_index) => call_indirect(program, vessel, type_index),
+    }
+}

@@ -1,0 +1,4 @@
+pub mod GroupLaws
+pub mod PathLaws
+pub mod SoundLaws
+pub mod StepLaws

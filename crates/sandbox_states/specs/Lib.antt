@@ -1,0 +1,5 @@
+pub mod Paths
+pub mod Rests
+pub mod Sound
+pub mod Stands
+pub mod Views

@@ -1,0 +1,262 @@
+//! The operators of a turn.
+ghost use Rattle.std.specs.Prelude.{◌≡◌, ◌+◌, ◌-◌, ◌*◌, ◌^◌, ◌<◌, ◌≤◌};
+ghost use Rattle.sandbox_states.specs.Paths.{Advances, Keeps, KeepsGroup, KeepsPause, KeepsRest, Parts, Pauses, Quantum, Rests, Stretches};
+ghost use Rattle.wasm_meaning.specs.Pending.{Pending};
+ghost use Rattle.wasm_states.specs.Holding.{Holds, IsState};
+ghost use Rattle.wasm_states.specs.HostCalls.{IsHost};
+
+use wasi_calls::{HostStep, Streams, host};
+use wasm_instance::Program;
+use wasm_ops::{HostCall, Trap};
+use wasm_step::{Step, step};
+use wasm_store::Vessel;
+
+/// How a run is over.
+#[derive(Clone, Copy, Debug, PartialEq, Eq)]
+pub(crate) enum Close {
+    /// All functions came to their ends.
+    Fell,
+
+    /// The function ended itself with a code.
+    Exited(u32),
+
+    /// It trapped.
+    Trapped(Trap),
+
+    /// What is left does not pay for its next operator.
+    Spent,
+}
+
+/// What came of one operator.
+#[derive(Clone, Copy, Debug, PartialEq, Eq)]
+pub(crate) enum Progress {
+    /// It cost so many units.
+    Paid(u64),
+
+    /// It cost nothing.
+    Free,
+
+    /// The run is over, and the operator cost so many units.
+    Over { end: Close, price: u64 },
+}
+
+/// What came of operators of the function alone.
+#[derive(Clone, Copy, Debug, PartialEq, Eq)]
+pub(crate) enum Pause {
+    /// All is paid out, or the host is asked, after so many units.
+    Stopped { paid: u64 },
+
+    /// The run is over, after so many units.
+    Over { end: Close, paid: u64 },
+}
+
+/// What came of operators that are to reach a quantum.
+#[derive(Clone, Copy, Debug, PartialEq, Eq)]
+pub(crate) enum Stretch {
+    /// They reached it, with so many units.
+    Reached { paid: u64 },
+
+    /// The run is over, after so many units.
+    Over { end: Close, paid: u64 },
+}
+
+/// What is left where a quantum was reached.
+#[derive(Clone, Copy, Debug, PartialEq, Eq)]
+pub(crate) enum Rest {
+    /// An operator that is to be paid.
+    More,
+
+    /// Nothing: the run is over for nothing.
+    Over(Close),
+}
+
+// Carries out a call of the host.
+#[inline(never)]
+fn carry_out(
+    _program: &Program,
+    vessel: &mut Vessel,
+    streams: &mut Streams,
+    call: HostCall,
+    left: u64,
+) -> Progress
+    requires state { IsState _program.now vessel.old }
+    requires host { IsHost _program.now vessel.old call }
+    ensures keeps { Keeps _program.now left vessel.old vessel.new result }
+    ensures means { (w : Pending) → Holds _program.now vessel.old w → w.state.store.streams ≡ streams.old → Advances _program.now w left vessel.new streams.new result }
+    ensures pages { vessel.new.pages ≡ vessel.old.pages }
+    ensures body { streams.new.body ≡ streams.old.body }
+{
+    match host(call, vessel, streams, left) {
+        HostStep::Went(price) => Progress::Paid(price),
+        HostStep::Exited { code, price } => Progress::Over {
+            end: Close::Exited(code),
+            price,
+        },
+        HostStep::Short => Progress::Over {
+            end: Close::Spent,
+            price: 0,
+        },
+    }
+}
+
+// One operator, with a call of the host carried out.
+#[inline(never)]
+fn advance(program: &Program, vessel: &mut Vessel, streams: &mut Streams, left: u64) -> Progress
+    requires state { IsState program.now vessel.old }
+    ensures keeps { Keeps program.now left vessel.old vessel.new result }
+    ensures means { (w : Pending) → Holds program.now vessel.old w → w.state.store.streams ≡ streams.old → Advances program.now w left vessel.new streams.new result }
+    ensures pages { vessel.new.pages ≡ vessel.old.pages }
+    ensures body { streams.new.body ≡ streams.old.body }
+{
+    match step(program, vessel, left) {
+        Step::Went(price) => Progress::Paid(price),
+        Step::Free => Progress::Free,
+        Step::Host(call) => carry_out(program, vessel, streams, call, left),
+        Step::Trapped { trap, price } => Progress::Over {
+            end: Close::Trapped(trap),
+            price,
+        },
+        Step::Ended => Progress::Over {
+            end: Close::Fell,
+            price: 0,
+        },
+        Step::Short => Progress::Over {
+            end: Close::Spent,
+            price: 0,
+        },
+    }
+}
+
+// Runs operators until they have cost so much, or the host is asked.
+#[inline(never)]
+fn run_operators(program: &Program, vessel: &mut Vessel, most: u64) -> Pause
+    requires state { IsState program.now vessel.old }
+    requires some { 1 ≤ most }
+    ensures keeps { KeepsPause program.now most vessel.old vessel.new result }
+    ensures means { (w : Pending) → Holds program.now vessel.old w → Pauses most program.now w vessel.new result }
+    ensures pages { vessel.new.pages ≡ vessel.old.pages }
+{
+    let mut rest = most;
+    while rest != 0 {
+        match step(program, vessel, rest) {
+            Step::Went(price) => rest -= price,
+            Step::Free => {}
+            Step::Host(_) => return Pause::Stopped { paid: most - rest },
+            Step::Short => return Pause::Stopped { paid: most - rest },
+            Step::Ended => return Pause::Over {
+                end: Close::Fell,
+                paid: most - rest,
+            },
+            Step::Trapped { trap, price } => return Pause::Over {
+                end: Close::Trapped(trap),
+                paid: most - rest + price,
+            },
+        }
+    }
+    Pause::Stopped { paid: most }
+}
+
+// Some operators, that may cost as much as is left and is due.
+fn run_part(
+    program: &Program,
+    vessel: &mut Vessel,
+    streams: &mut Streams,
+    left: u64,
+    due: u64,
+) -> Progress
+    requires state { IsState program.now vessel.old }
+    requires some { 1 ≤ due }
+    ensures keeps { Keeps program.now left vessel.old vessel.new result }
+    ensures means { (w : Pending) → Holds program.now vessel.old w → w.state.store.streams ≡ streams.old → Parts due program.now w left vessel.new streams.new result }
+    ensures pages { vessel.new.pages ≡ vessel.old.pages }
+    ensures body { streams.new.body ≡ streams.old.body }
+{
+    if left == 0 {
+        return advance(program, vessel, streams, left);
+    }
+    match run_operators(program, vessel, left.min(due)) {
+        Pause::Stopped { paid } => {
+            if paid == 0 {
+                advance(program, vessel, streams, left)
+            } else {
+                Progress::Paid(paid)
+            }
+        }
+        Pause::Over { end, paid } => Progress::Over { end, price: paid },
+    }
+}
+
+// Runs operators until their prices reach the quantum.
+fn run_group(
+    program: &Program,
+    vessel: &mut Vessel,
+    streams: &mut Streams,
+    left: u64,
+    quantum: u64,
+) -> Stretch
+    requires state { IsState program.now vessel.old }
+    requires some { 1 ≤ quantum }
+    ensures keeps { KeepsGroup program.now left vessel.new result }
+    ensures means { (w : Pending) → Holds program.now vessel.old w → w.state.store.streams ≡ streams.old → Stretches quantum program.now w left vessel.new streams.new result }
+    ensures pages { vessel.new.pages ≡ vessel.old.pages }
+    ensures body { streams.new.body ≡ streams.old.body }
+{
+    let mut paid = 0;
+    while paid < quantum {
+        match run_part(program, vessel, streams, left - paid, quantum - paid) {
+            Progress::Paid(more) => paid += more,
+            Progress::Free => {}
+            Progress::Over { end, price } => return Stretch::Over {
+                end,
+                paid: paid + price,
+            },
+        }
+    }
+    Stretch::Reached { paid }
+}
+
+// Moves on as long as it costs nothing.
+fn move_freely(program: &Program, vessel: &mut Vessel) -> Rest
+    requires state { IsState program.now vessel.old }
+    ensures keeps { KeepsRest program.now vessel.new result }
+    ensures means { (w : Pending) → Holds program.now vessel.old w → Rests program.now w vessel.new result }
+    ensures pages { vessel.new.pages ≡ vessel.old.pages }
+{
+    loop {
+        match step(program, vessel, 0) {
+            Step::Free => {}
+            Step::Went(_) => unreachable!(),
+            Step::Host(_) => return Rest::More,
+            Step::Short => return Rest::More,
+            Step::Ended => return Rest::Over(Close::Fell),
+            Step::Trapped {
+                trap,
+                price: _price,
+            } => return Rest::Over(Close::Trapped(trap)),
+        }
+    }
+}
+
+/// Runs one turn: operators until their prices reach the quantum, and then the moves that cost nothing.
+pub(crate) fn run_quantum(
+    program: &Program,
+    vessel: &mut Vessel,
+    streams: &mut Streams,
+    left: u64,
+    quantum: u64,
+) -> Stretch
+    requires state { IsState program.now vessel.old }
+    requires some { 1 ≤ quantum }
+    ensures keeps { KeepsGroup program.now left vessel.new result }
+    ensures means { (w : Pending) → Holds program.now vessel.old w → w.state.store.streams ≡ streams.old → Quantum quantum program.now w left vessel.new streams.new result }
+    ensures pages { vessel.new.pages ≡ vessel.old.pages }
+    ensures body { streams.new.body ≡ streams.old.body }
+{
+    match run_group(program, vessel, streams, left, quantum) {
+        Stretch::Reached { paid } => match move_freely(program, vessel) {
+            Rest::More => Stretch::Reached { paid },
+            Rest::Over(end) => Stretch::Over { end, paid },
+        },
+        Stretch::Over { end, paid } => Stretch::Over { end, paid },
+    }
+}

@@ -1,0 +1,12 @@
+pub mod Members
+mod Arrays
+mod Json
+mod Literals
+mod Seeking
+mod Tabling
+mod Inserting
+mod Making
+mod Numbering
+mod Programs
+mod Places
+mod Loadings

@@ -1,0 +1,35 @@
+-- What is made of a file's bytes, by what they spell.
+use Rattle.std.proofs.Common.{◌≡◌, ℕ, ◌<◌, ◌≤◌, Bool, true, false, nat_lt, cond, List, length, Result, Ok, Err, inl, inr, refl, sym, ap, ◌∙◌, arith}
+use Rattle.std.proofs.lemmas.Bool.Decides.{nat_tests}
+use Rattle.wasm_ops.specs.declared.faults.Fault.{Fault}
+use Rattle.wasm_ops.specs.declared.modules.Module.{Module}
+use Rattle.wasm_code.specs.Bodies.{beginning}
+use Rattle.wasm_reader.proofs.ModuleLaws.{whole_module_decided}
+use Rattle.wasm_reader.specs.Modules.{RefusesModule, SpellsModule, most_bytes, whole_module}
+use Rattle.wasm_meaning.specs.Programs.{Program}
+use Rattle.wasm_meaning.specs.Validity.{module_walk}
+use Rattle.serve_config.specs.Loading.{Unfit, program_of, module_read, validated}
+
+pub is_long : (most n : ℕ) → most < n → nat_lt most n ≡ true
+is_long most n h = grind (arith, nat_tests)
+
+pub is_short : (most n : ℕ) → n ≤ most → nat_lt most n ≡ false
+is_short most n h = grind (arith, nat_tests)
+
+abbrev unless_long : (pages : ℕ) → List ℕ → Bool → Result Program Unfit
+unless_long pages bytes b = cond b (Err (record { number = 21; place = 0 })) (module_read pages (whole_module.read (beginning bytes)))
+
+pub made_of_spelt : (pages : ℕ) (bytes : List ℕ) (parts : Module) → SpellsModule bytes parts → program_of pages bytes ≡ validated pages parts (module_walk parts)
+unfolding program_of
+made_of_spelt pages bytes parts s =
+    ap (unless_long pages bytes) (is_short most_bytes (length bytes) s.small)
+    ∙ ap (module_read pages) ((whole_module_decided.decides (beginning bytes)).only parts s.after s.spelt)
+
+pub made_of_refused : (pages : ℕ) (bytes : List ℕ) (fault : Fault) → RefusesModule bytes fault → program_of pages bytes ≡ Err (record { number = fault.number; place = fault.place })
+unfolding program_of
+made_of_refused pages bytes fault (inl many) =
+    ap (unless_long pages bytes) (is_long most_bytes (length bytes) many.large)
+    ∙ ap (λ (f : Fault). Err (record { number = f.number; place = f.place })) (sym many.told)
+made_of_refused pages bytes fault (inr item) =
+    ap (unless_long pages bytes) (is_short most_bytes (length bytes) item.small)
+    ∙ ap (module_read pages) ((whole_module_decided.decides (beginning bytes)).only_refused fault item.refused)

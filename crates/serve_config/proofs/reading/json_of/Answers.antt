@@ -1,0 +1,10 @@
+-- Both sides of what `serde_json` answers.
+use Rattle.std.proofs.Common.{rules}
+use Rattle.serve_config.proofs.Json.{json_read, json_refused}
+use Rattle.serve_config.proofs.reading.json_of.Goals as goal
+
+pub returns-in-Ok : goal.returns-in-Ok
+returns-in-Ok c = json_read _ _ c.in-Ok.ensures.ok.0 c.in-Ok.ensures.ok.1
+
+pub returns-else-is_memory : goal.returns-else-is_memory
+returns-else-is_memory c = json_refused _ (c.in-Err.ensures.err (λ m. let t = c.is_memory.ensures.1 m in cc (t, c.if-is_memory.false)))

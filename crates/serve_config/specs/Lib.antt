@@ -1,0 +1,14 @@
+pub mod Refusals
+pub mod Steps
+pub mod Letters
+pub mod Kinds
+pub mod Configuration
+pub mod Overview
+pub mod Walk
+pub mod Ranges
+pub mod Reading
+pub mod Outcome
+pub mod Routing
+pub mod Tables
+pub mod Loading
+pub mod Loaded

@@ -1,0 +1,87 @@
+-- The programs of routes: for each in order its file is read, and then the module that the bytes spell, which is validated and linked.
+use Rattle.std.specs.Prelude.{◌≡◌, ◌⊎◌, ℕ, suc, nat_lt, if◌then◌else◌, List, [], ◌∷◌, length, Option, None, Some, Result, Ok, Err}
+use Rattle.outside.specs.Library.{Fails, Fetched, Files, Gives}
+use Rattle.wasm_ops.specs.declared.modules.Module.{Module}
+use Rattle.wasm_code.specs.Bodies.{beginning}
+use Rattle.wasm_code.specs.Reading.{Read}
+use Rattle.wasm_reader.specs.Modules.{most_bytes, whole_module}
+use Rattle.wasm_meaning.specs.LinkRules.{link_number}
+use Rattle.wasm_meaning.specs.Programs.{Program, link}
+use Rattle.wasm_meaning.specs.Validity.{module_walk}
+use Rattle.wasm_meaning.specs.ValidityChecks.{Check}
+use Rattle.wasm_meaning.specs.declared.links.Unlinked.{Unlinked}
+use Rattle.serve_config.specs.declared.tenants.Route.{Route}
+
+-- One file.
+
+-- why bytes are no program: the number of the refusal, and its place or item
+pub record Unfit : Type 0 where
+  pub number : ℕ
+  pub place : ℕ
+
+abbrev pub linked : Result Program Unlinked → Result Program Unfit
+linked (Ok program) = Ok program
+linked (Err why) = Err (record { number = link_number why.rule; place = why.item })
+
+abbrev pub validated : (pages : ℕ) → Module → Check → Result Program Unfit
+validated pages parts (Ok passed) = linked (link parts pages)
+validated pages parts (Err broken) = Err (record { number = broken.number; place = broken.item })
+
+abbrev pub module_read : (pages : ℕ) → Read Module → Result Program Unfit
+module_read pages (Ok read) = validated pages read.0 (module_walk read.0)
+module_read pages (Err fault) = Err (record { number = fault.number; place = fault.place })
+
+-- the program of a file that has so many pages, or its first refusal
+unfoldable pub program_of : (pages : ℕ) → List ℕ → Result Program Unfit
+program_of pages bytes =
+    if nat_lt most_bytes (length bytes) then Err (record { number = 21; place = 0 }) else module_read pages (whole_module.read (beginning bytes))
+
+-- Many files.
+
+-- why programs are not loaded: the file of the route with this number is not read; or it is no program
+pub data Unloaded : Type 0 where
+  NotRead : (route : ℕ) → Unloaded
+  IsUnfit : (route number place : ℕ) → Unloaded
+
+abbrev pub fit : (number : ℕ) → Result Program Unfit → Result Program Unloaded
+fit number (Ok program) = Ok program
+fit number (Err why) = Err (IsUnfit number why.number why.place)
+
+-- the program of a route, from what a read of its file gave
+abbrev pub from_answer : (number : ℕ) → Route → Option (List ℕ) → Result Program Unloaded
+from_answer number r None = Err (NotRead number)
+from_answer number r (Some bytes) = fit number (program_of r.pages bytes)
+
+-- one program in front of others
+abbrev pub with_first : Program → Result (List Program) Unloaded → Result (List Program) Unloaded
+with_first program (Ok programs) = Ok (program ∷ programs)
+with_first program (Err why) = Err why
+
+module _ {L : Type 0} (gave : L → L → List ℕ → ℕ → Fetched → Type 0) where
+  -- one file was read between these states, and this came of it
+  abbrev pub Loads : (number : ℕ) → Route → (old new : L) → Result Program Unloaded → Type 0
+  Loads number r old new one =
+      (gave old new r.«module» most_bytes Fails × (one ≡ Err (NotRead number)))
+      ⊎ ((answer : Option (List ℕ)) × gave old new r.«module» most_bytes (Gives answer) × (one ≡ from_answer number r answer))
+
+  -- behind a program the others come, and else nothing more is read
+  abbrev pub Follows : Result Program Unloaded → (between new : L) → (all : Result (List Program) Unloaded) → (Result (List Program) Unloaded → Type 0) → Type 0
+  Follows (Ok program) between new all Others = (rest : Result (List Program) Unloaded) × Others rest × (all ≡ with_first program rest)
+  Follows (Err why) between new all Others = (all ≡ Err why) × (new ≡ between)
+
+  -- the files of these routes, of which the first has this number, were read in order and no others, and this came of it
+  abbrev pub LoadsAll : (number : ℕ) → List Route → (old new : L) → Result (List Program) Unloaded → Type 0
+  LoadsAll number [] old new all = (all ≡ Ok []) × (new ≡ old)
+  LoadsAll number (r ∷ rs) old new all =
+      (between : L) × (one : Result Program Unloaded) × Loads number r old between one × Follows one between new all (λ rest. LoadsAll (suc number) rs between new rest)
+
+-- The same over files that are told.
+
+abbrev pub follow : Result Program Unloaded → Result (List Program) Unloaded → Result (List Program) Unloaded
+follow (Ok program) rest = with_first program rest
+follow (Err why) rest = Err why
+
+-- what comes of these routes' files
+abbrev pub loaded : Files → (number : ℕ) → List Route → Result (List Program) Unloaded
+loaded files number [] = Ok []
+loaded files number (r ∷ rs) = follow (from_answer number r (files r.«module»)) (loaded files (suc number) rs)

@@ -1,0 +1,57 @@
+//! One program: from a file's bytes to a module, which is validated and linked.
+ghost use Rattle.std.specs.Prelude.{◌≡◌};
+ghost use Rattle.wasm_ops.specs.WellFormed.{IsWellFormed};
+ghost use Rattle.wasm_meaning.specs.Programs.{link as link_due};
+ghost use Rattle.wasm_meaning.specs.Validity.{module_walk};
+ghost use Rattle.serve_config.specs.Loading.{linked, validated, program_of as program_due};
+ghost use Rattle.serve_config.specs.Loaded.{IsMade};
+
+use crate::load_faults::Unmade;
+use std::alloc::Global;
+use wasm_instance::{LinkFault, Program, link};
+use wasm_ops::Module;
+use wasm_reader::{ReadFault, read_module};
+use wasm_validate::{Valid, ValidFault, validate};
+
+/// The program of a file's bytes with so many pages.
+pub(crate) fn program_of(alloc: Global, bytes: &[u8], pages: u32) -> Result<Program, Unmade>
+    ensures { IsMade result (program_due pages bytes.now) }
+{
+    match read_module(alloc, bytes) {
+        Ok(parts) => of_module(alloc, parts, pages),
+        Err(ReadFault::Bytes(fault)) => Err(Unmade::Unfit {
+            number: fault.number,
+            place: fault.place,
+        }),
+        Err(ReadFault::NoMemory) => Err(Unmade::NoMemory),
+    }
+}
+
+/// The program of a module that was read.
+fn of_module(alloc: Global, parts: Module, pages: u32) -> Result<Program, Unmade>
+    requires formed { IsWellFormed parts }
+    ensures { IsMade result (validated pages parts (module_walk parts)) }
+{
+    match validate(alloc, parts) {
+        Ok(valid) => of_valid(alloc, valid, pages),
+        Err(ValidFault::Rule(broken)) => Err(Unmade::Unfit {
+            number: broken.number,
+            place: broken.item,
+        }),
+        Err(ValidFault::NoMemory) => Err(Unmade::NoMemory),
+    }
+}
+
+/// The program of a valid module.
+fn of_valid(alloc: Global, valid: Valid, pages: u32) -> Result<Program, Unmade>
+    ensures { IsMade result (linked (link_due valid pages)) }
+{
+    match link(alloc, valid, pages) {
+        Ok(program) => Ok(program),
+        Err(LinkFault::Refused(why)) => Err(Unmade::Unfit {
+            number: why.rule.number(),
+            place: why.item,
+        }),
+        Err(LinkFault::NoMemory) => Err(Unmade::NoMemory),
+    }
+}

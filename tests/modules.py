@@ -8,7 +8,7 @@ is compared with a reader that is written from the format alone.
 
 Each changed file is one of a few modules with up to three changes: a byte set, put in or taken out, a number made longer, a piece
 doubled, the file cut. A refused file has to be refused with the same number at the same place; any other one has to be
-read, and is refused with the first rule that it breaks after `module_validator.py`, or shows as `module 90 0 0` or as a reply. The changes are the same in each run (SEED), and the summary says how
+read, and is refused with the first rule that it breaks after `module_validator.py` and `interpreter.py`, or is run. The changes are the same in each run (SEED), and the summary says how
 often each number came.
 """
 
@@ -19,6 +19,7 @@ import subprocess
 import sys
 import tempfile
 
+import interpreter
 import module_reader
 import module_table
 import module_validator
@@ -194,9 +195,9 @@ def first_broken(data):
 
 
 def agrees(status, note, data, refusal):
-    refusal = refusal or first_broken(data)
+    refusal = refusal or first_broken(data) or interpreter.link_refusal(module_validator.decode(data), 256)
     if refusal is None:
-        return status == 0 or (status, note) == (5, "module 90 0 0\n")
+        return status == 0
     return (status, note) == (5, f"module {refusal[0]} 0 {refusal[1]}\n")
 
 

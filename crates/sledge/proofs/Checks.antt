@@ -1,24 +1,24 @@
 -- What the checks of a module's file and of a body's file make of them, said by what bytes spell; and that the first bytes of a file do for it.
-use Rattle.std.proofs.Common.{◌≡◌, ℕ, ◌+◌, ◌<◌, ◌≤◌, Bool, true, false, cond, nat_lt, min, List, ◌++◌, append-nil, length, take, Option, None, Some, Ok, Err, inl, inr, refl, sym, ap, ◌∙◌, arith}
+use Rattle.std.proofs.Common.{◌≡◌, ℕ, ◌+◌, ◌<◌, ◌≤◌, Bool, true, false, cond, nat_lt, min, List, ◌++◌, append-nil, length, take, Option, Some, Result, Ok, Err, inl, inr, refl, sym, ap, ◌∙◌, arith}
 use Rattle.std.proofs.lemmas.Bool.Decides.{nat_tests}
 use Rattle.std.proofs.lemmas.List.{length-take, take-append-drop}
 use Rattle.std.proofs.Math.ListN.{drop_of_length-le}
 use Rattle.wasm_ops.specs.declared.faults.Fault.{Fault}
 use Rattle.wasm_ops.specs.declared.modules.Module.{Module}
-use Rattle.wasm_ops.specs.declared.operators.Op.{Op}
 use Rattle.wasm_code.specs.Bodies.{beginning}
 use Rattle.wasm_reader.proofs.ModuleLaws.{whole_module_decided}
 use Rattle.wasm_reader.specs.Modules.{RefusesModule, SpellsModule, most_bytes, whole_module}
 use Rattle.wasm_meaning.specs.Validity.{module_walk}
+use Rattle.wasm_meaning.specs.LinkRules.{link_number}
+use Rattle.wasm_meaning.specs.Programs.{Program, link, linked_or}
 use Rattle.wasm_meaning.specs.ValidityChecks.{Check}
+use Rattle.wasm_meaning.specs.declared.links.Unlinked.{Unlinked}
 use Rattle.wasm_meaning.specs.declared.violations.Broken.{Broken}
-use Rattle.sledge.proofs.Built.{is_built, not_built_is}
 use Rattle.sledge.proofs.Walking.{IsSteady}
-use Rattle.sledge.specs.BuiltModule.{IsBuilt, IsInvalid, IsNotBuilt, built_of}
+use Rattle.sledge.specs.Accepted.{IsAccepted, IsInvalid, IsUnlinked, given_pages}
 use Rattle.sledge.specs.CommandLine.{Asked, AsksHelp, AsksVersion, AsksInvoke, InvokeWords}
-use Rattle.sledge.specs.Commands.{body_limit, body_plan, check_body, check_module, module_step, not_built, plan_of, ran, runnable, validated}
+use Rattle.sledge.specs.Commands.{body_limit, body_plan, check_body, check_module, linked, module_step, plan_of, validated}
 use Rattle.sledge.specs.Endings.{Ended, module_fault, recording_fault}
-use Rattle.sledge.specs.Execution.{Execution, execution_of}
 use Rattle.sledge.specs.Plans.{Ends, Goes, Plan, Step, Stops, checked_file, go_on, limited}
 
 -- Lengths and fronts.
@@ -56,7 +56,7 @@ limited_front {A} most too_long check whole = at (nat_lt most (length whole)) re
 
 -- The check of a module.
 
--- bytes that spell a module are checked by its rules, and then by its operators
+-- bytes that spell a module are checked by its rules, and then linked
 pub check_spelt : (bytes : List ℕ) (parts : Module) → SpellsModule bytes parts → check_module bytes ≡ validated (module_walk parts) parts
 unfolding check_module
 check_spelt bytes parts s =
@@ -73,16 +73,17 @@ check_refused bytes fault (inr item) =
     ap (λ b. cond b (Stops (module_fault 0 21 0)) (module_step (whole_module.read (beginning bytes)))) (is_short most_bytes (length bytes) item.small)
     ∙ ap module_step ((whole_module_decided.decides (beginning bytes)).only_refused fault item.refused)
 
-pub check_built : (bytes : List ℕ) (ops : List Op) → IsBuilt bytes ops → check_module bytes ≡ Goes ops
-check_built bytes ops b =
-    check_spelt bytes b.parts b.spelt ∙ ap (λ (c : Check). validated c b.parts) b.valid ∙ ap runnable (is_built b.parts ops b.built)
+pub check_accepted : (bytes : List ℕ) (program : Program) → IsAccepted bytes program → check_module bytes ≡ Goes program
+check_accepted bytes program b =
+    check_spelt bytes b.parts b.spelt ∙ ap (λ (c : Check). validated c b.parts) b.valid ∙ ap (λ (r : Result Program Unlinked). linked r) b.links
 
 pub check_invalid : (bytes : List ℕ) (broken : Broken) → IsInvalid bytes broken → check_module bytes ≡ Stops (module_fault 0 broken.number broken.item)
 check_invalid bytes broken n = check_spelt bytes n.parts n.spelt ∙ ap (λ (c : Check). validated c n.parts) n.broken_first
 
-pub check_not_built : (bytes : List ℕ) → IsNotBuilt bytes → check_module bytes ≡ Stops not_built
-check_not_built bytes n =
-    check_spelt bytes n.parts n.spelt ∙ ap (λ (c : Check). validated c n.parts) n.valid ∙ ap runnable (not_built_is n.parts n.other)
+pub check_unlinked : (bytes : List ℕ) (why : Unlinked) → IsUnlinked bytes why → check_module bytes ≡ Stops (module_fault 0 (link_number why.rule) why.item)
+check_unlinked bytes why n =
+    check_spelt bytes n.parts n.spelt ∙ ap (λ (c : Check). validated c n.parts) n.valid
+    ∙ ap (λ (o : Option Unlinked). linked (linked_or (record { linked = n.parts; pages = given_pages }) o)) n.refused_first
 
 module_front : (whole : List ℕ) → check_module (take (most_bytes + 1) whole) ≡ check_module whole
 unfolding check_module
@@ -117,12 +118,12 @@ limited_well : {A : Type 0} (b : Bool) (too_long : Ended) (step : Step A) → Is
 limited_well true too_long step long well = long
 limited_well false too_long step long well = well
 
-runnable_well : (built : Option (List Op)) → StopsWell (runnable built)
-runnable_well None = tt
-runnable_well (Some ops) = tt
+linked_well : (found : Result Program Unlinked) → StopsWell (linked found)
+linked_well (Ok program) = tt
+linked_well (Err why) = tt
 
 validated_well : (check : Check) (parts : Module) → StopsWell (validated check parts)
-validated_well (Ok passed) parts = runnable_well (built_of parts)
+validated_well (Ok passed) parts = linked_well (link parts given_pages)
 validated_well (Err broken) parts = tt
 
 module_well : (bytes : List ℕ) → StopsWell (check_module bytes)
@@ -133,16 +134,12 @@ module_well bytes = limited_well (nat_lt most_bytes (length bytes)) (module_faul
     at (Ok read) = validated_well (module_walk read.0) read.0
     at (Err fault) = tt
 
-ran_steady : (run : Option Execution) → IsSteady (Ends (ran run))
-ran_steady None = tt
-ran_steady (Some run) = tt
-
-body_plan_steady : (words : InvokeWords) (ops : List Op) → IsSteady (body_plan words ops)
-body_plan_steady words ops =
+body_plan_steady : (words : InvokeWords) (program : Program) → IsSteady (body_plan words program)
+body_plan_steady words program =
     checked_file_steady words.body_name body_limit check_body _
     (limited_front body_limit (recording_fault 76) (λ body. Goes body))
     (λ bytes. limited_well (nat_lt body_limit (length bytes)) (recording_fault 76) (Goes bytes) tt tt)
-    (λ body. ran_steady (execution_of ops words.budget))
+    (λ body. tt)
 
 pub plan_steady : (asked : Asked) → IsSteady (plan_of (Some asked))
 plan_steady AsksHelp = tt

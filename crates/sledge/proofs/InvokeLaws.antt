@@ -1,22 +1,26 @@
 -- How an `invoke` ends, by what its files spell.
-use Rattle.std.proofs.Common.{◌≡◌, ◌≢◌, ℕ, ◌<◌, ◌≤◌, Bool, true, false, if◌then◌else◌, nat_lt, List, [], length, Option, None, Some, Ok, Err, inl, inr, refl, sym, ap, ◌∙◌}
+use Rattle.std.proofs.Common.{◌≡◌, ◌≢◌, ℕ, ◌<◌, ◌≤◌, Bool, true, false, if◌then◌else◌, nat_lt, List, length, Option, None, Some, Result, Ok, Err, inl, inr, refl, sym, ap, subst, ◌∙◌}
 use Rattle.outside.specs.Library.{Files}
+use Rattle.wasm_ops.specs.Bytes.{AreBytes}
 use Rattle.wasm_ops.specs.declared.faults.Fault.{Fault}
 use Rattle.wasm_ops.specs.declared.modules.Module.{Module}
-use Rattle.wasm_ops.specs.declared.operators.Op.{Op}
+use Rattle.wasm_reader.proofs.FormedModules.{module_formed}
 use Rattle.wasm_reader.proofs.ModuleLaws.{either}
 use Rattle.wasm_reader.specs.Modules.{RefusesModule, SpellsModule}
+use Rattle.wasm_instance.proofs.Outcomes.{linked_is, unlinked_is}
+use Rattle.wasm_meaning.proofs.SafePrograms.{verdict_is}
+use Rattle.wasm_meaning.specs.LinkRules.{link_number}
+use Rattle.wasm_meaning.specs.Programs.{Program, IsProgram, link}
+use Rattle.wasm_meaning.specs.Requests.{Request, Verdict, verdict}
 use Rattle.wasm_meaning.specs.Validity.{module_walk}
 use Rattle.wasm_meaning.specs.ValidityChecks.{Check}
+use Rattle.wasm_meaning.specs.declared.links.Unlinked.{Unlinked}
 use Rattle.wasm_meaning.specs.declared.violations.Broken.{Broken}
-use Rattle.sledge.proofs.Built.{built_is, is_not_built}
-use Rattle.sledge.proofs.Checks.{check_built, check_invalid, check_long, check_not_built, check_refused, check_short, fits_limit}
-use Rattle.sledge.proofs.Safety.{typed_never_stuck}
-use Rattle.sledge.specs.BuiltModule.{IsBuilt, IsInvalid, IsNotBuilt, built_of}
+use Rattle.sledge.proofs.Checks.{check_accepted, check_invalid, check_long, check_refused, check_short, check_unlinked, fits_limit}
+use Rattle.sledge.specs.Accepted.{IsAccepted, IsInvalid, IsUnlinked, given_pages}
 use Rattle.sledge.specs.CommandLine.{Asked, AsksInvoke, InvokeWords, command_of}
-use Rattle.sledge.specs.Commands.{body_limit, body_plan, check_body, check_module, ending, invoke_plan, not_built, plan_of, ran, run_on}
+use Rattle.sledge.specs.Commands.{body_limit, body_plan, check_body, check_module, ending, invoke_plan, plan_of, ran, request_of}
 use Rattle.sledge.specs.Endings.{Ended, module_fault, not_read, recording_fault, status_of}
-use Rattle.sledge.specs.Execution.{Execution, Fell, Outcome, Spent, Stuck, Trapped, concluded, run}
 use Rattle.sledge.specs.Plans.{Ends, Goes, Step, Stops, found, go_on, over}
 use Rattle.sledge.specs.Promises.{AnswersInvoke, HoldsBoth}
 use Rattle.sledge.specs.declared.status.Status.TheVariants as status
@@ -30,19 +34,19 @@ from_file : (files : Files) (i : InvokeWords) (file : Option (List ℕ)) → fil
 from_file files i file m = ap (λ (f : Option (List ℕ)). over files (found i.module_name check_module (body_plan i) f)) m
 
 -- the ending from the check of a module on
-from_check : (files : Files) (i : InvokeWords) (file : List ℕ) (step : Step (List Op)) → files i.module_name ≡ Some file → check_module file ≡ step → over files (invoke_plan i) ≡ over files (go_on (body_plan i) step)
+from_check : (files : Files) (i : InvokeWords) (file : List ℕ) (step : Step Program) → files i.module_name ≡ Some file → check_module file ≡ step → over files (invoke_plan i) ≡ over files (go_on (body_plan i) step)
 from_check files i file step m c = from_file files i (Some file) m ∙ ap (λ s. over files (go_on (body_plan i) s)) c
 
 -- the ending from a body's file on
-from_body : (files : Files) (i : InvokeWords) (ops : List Op) (body : Option (List ℕ)) → files i.body_name ≡ body
-    → over files (body_plan i ops) ≡ over files (found i.body_name check_body (λ b. Ends (run_on ops i.budget b)) body)
-from_body files i ops body b = ap (λ (f : Option (List ℕ)). over files (found i.body_name check_body (λ b. Ends (run_on ops i.budget b)) f)) b
+from_body : (files : Files) (i : InvokeWords) (program : Program) (body : Option (List ℕ)) → files i.body_name ≡ body
+    → over files (body_plan i program) ≡ over files (found i.body_name check_body (λ b. Ends (ran (request_of program i.budget b))) body)
+from_body files i program body b = ap (λ (f : Option (List ℕ)). over files (found i.body_name check_body (λ b. Ends (ran (request_of program i.budget b))) f)) b
 
 -- the ending from the check of a body on
-from_body_check : (files : Files) (i : InvokeWords) (ops : List Op) (body : List ℕ) (step : Step (List ℕ)) → files i.body_name ≡ Some body → check_body body ≡ step
-    → over files (body_plan i ops) ≡ over files (go_on (λ b. Ends (run_on ops i.budget b)) step)
-from_body_check files i ops body step b c =
-    from_body files i ops (Some body) b ∙ ap (λ s. over files (go_on (λ b. Ends (run_on ops i.budget b)) s)) c
+from_body_check : (files : Files) (i : InvokeWords) (program : Program) (body : List ℕ) (step : Step (List ℕ)) → files i.body_name ≡ Some body → check_body body ≡ step
+    → over files (body_plan i program) ≡ over files (go_on (λ b. Ends (ran (request_of program i.budget b))) step)
+from_body_check files i program body step b c =
+    from_body files i program (Some body) b ∙ ap (λ s. over files (go_on (λ b. Ends (ran (request_of program i.budget b))) s)) c
 
 pub module_missing : (words : List (List ℕ)) (files : Files) (i : InvokeWords) → command_of words ≡ Some (AsksInvoke i) → files i.module_name ≡ None → ending words files ≡ not_read i.module_name
 module_missing words files i is m = asks words files i is ∙ from_file files i None m
@@ -55,72 +59,73 @@ pub module_invalid : (words : List (List ℕ)) (files : Files) (i : InvokeWords)
     → ending words files ≡ module_fault 0 broken.number broken.item
 module_invalid words files i file broken is m n = asks words files i is ∙ from_check files i file _ m (check_invalid file broken n)
 
-pub module_not_built : (words : List (List ℕ)) (files : Files) (i : InvokeWords) (file : List ℕ) → command_of words ≡ Some (AsksInvoke i) → files i.module_name ≡ Some file → IsNotBuilt file
-    → ending words files ≡ not_built
-module_not_built words files i file is m n = asks words files i is ∙ from_check files i file _ m (check_not_built file n)
+pub module_unlinked : (words : List (List ℕ)) (files : Files) (i : InvokeWords) (file : List ℕ) (why : Unlinked) → command_of words ≡ Some (AsksInvoke i) → files i.module_name ≡ Some file → IsUnlinked file why
+    → ending words files ≡ module_fault 0 (link_number why.rule) why.item
+module_unlinked words files i file why is m n = asks words files i is ∙ from_check files i file _ m (check_unlinked file why n)
 
-built : (words : List (List ℕ)) (files : Files) (i : InvokeWords) (file : List ℕ) (ops : List Op) → command_of words ≡ Some (AsksInvoke i) → files i.module_name ≡ Some file → IsBuilt file ops
-    → ending words files ≡ over files (body_plan i ops)
-built words files i file ops is m b = asks words files i is ∙ from_check files i file _ m (check_built file ops b)
+accepted : (words : List (List ℕ)) (files : Files) (i : InvokeWords) (file : List ℕ) (program : Program) → command_of words ≡ Some (AsksInvoke i) → files i.module_name ≡ Some file → IsAccepted file program
+    → ending words files ≡ over files (body_plan i program)
+accepted words files i file program is m b = asks words files i is ∙ from_check files i file _ m (check_accepted file program b)
 
-pub body_missing : (words : List (List ℕ)) (files : Files) (i : InvokeWords) (file : List ℕ) (ops : List Op) → command_of words ≡ Some (AsksInvoke i) → files i.module_name ≡ Some file → IsBuilt file ops
+pub body_missing : (words : List (List ℕ)) (files : Files) (i : InvokeWords) (file : List ℕ) (program : Program) → command_of words ≡ Some (AsksInvoke i) → files i.module_name ≡ Some file → IsAccepted file program
     → files i.body_name ≡ None → ending words files ≡ not_read i.body_name
-body_missing words files i file ops is m b none = built words files i file ops is m b ∙ from_body files i ops None none
+body_missing words files i file program is m b none = accepted words files i file program is m b ∙ from_body files i program None none
 
-pub body_too_long : (words : List (List ℕ)) (files : Files) (i : InvokeWords) (file body : List ℕ) (ops : List Op) → command_of words ≡ Some (AsksInvoke i) → HoldsBoth i files file body → IsBuilt file ops
+pub body_too_long : (words : List (List ℕ)) (files : Files) (i : InvokeWords) (file body : List ℕ) (program : Program) → command_of words ≡ Some (AsksInvoke i) → HoldsBoth i files file body → IsAccepted file program
     → body_limit < length body → ending words files ≡ recording_fault 76
-body_too_long words files i file body ops is holds b long = built words files i file ops is holds.0 b ∙ from_body_check files i ops body _ holds.1 (check_long body long)
+body_too_long words files i file body program is holds b long = accepted words files i file program is holds.0 b ∙ from_body_check files i program body _ holds.1 (check_long body long)
 
--- a run that is not stuck has a verdict
-has_verdict : (o : Outcome) (units : ℕ) → o ≢ Stuck → (x : Execution) × (concluded o units ≡ Some x)
-has_verdict Fell units h = (_, refl)
-has_verdict (Trapped why) units h = (_, refl)
-has_verdict Spent units h = (_, refl)
-has_verdict Stuck units h = absurd (h refl)
-
-pub complete : (words : List (List ℕ)) (files : Files) (i : InvokeWords) (file body : List ℕ) (ops : List Op) → command_of words ≡ Some (AsksInvoke i) → HoldsBoth i files file body → IsBuilt file ops
+pub complete : (words : List (List ℕ)) (files : Files) (i : InvokeWords) (file body : List ℕ) (program : Program) → command_of words ≡ Some (AsksInvoke i) → HoldsBoth i files file body → IsAccepted file program
     → length body ≤ body_limit → AnswersInvoke i files (ending words files)
-complete words files i file body ops is holds b fits =
-    let verdict = has_verdict (run ops [] i.budget).outcome _ (typed_never_stuck ops i.budget b.built.typed) in
-    record {
-      file = file;
-      ops = ops;
-      body = body;
-      run = verdict.0;
-      holds_module = holds.0;
-      built = b;
-      holds_body = holds.1;
-      fits = fits;
-      ran = verdict.1;
-      ends = built words files i file ops is holds.0 b ∙ from_body_check files i ops body _ holds.1 (check_short body fits) ∙ ap ran verdict.1;
-    }
+complete words files i file body program is holds b fits = record {
+  file = file;
+  program = program;
+  body = body;
+  holds_module = holds.0;
+  accepted = b;
+  holds_body = holds.1;
+  fits = fits;
+  ends = accepted words files i file program is holds.0 b ∙ from_body_check files i program body _ holds.1 (check_short body fits);
+}
+
+-- what bytes that are accepted spell is a program, so a request to it has a verdict
+is_program : (file : List ℕ) (program : Program) → AreBytes file → IsAccepted file program → IsProgram program
+is_program file program bytes b =
+    let is = linked_is b.parts given_pages program b.links in
+    subst (λ (p : Program). IsProgram p) (sym is.1) (record { formed = module_formed file b.parts bytes b.spelt; valid = b.valid; links = is.0 })
+
+pub has_verdict
+    : (file : List ℕ) (program : Program) → AreBytes file → IsAccepted file program → (request : Request) → request.program ≡ program
+    → (v : Verdict) × (verdict request ≡ Some v)
+has_verdict file program bytes b request same =
+    verdict_is request (subst (λ (p : Program). IsProgram p) (sym same) (is_program file program bytes b))
 
 -- Each `invoke` over files is one of these.
 
 not_done : (e f : Ended) → e ≡ f → status_of f ≢ status.Ok → status_of e ≡ status.Ok → ⊥
 not_done e f same other done = other (sym (ap status_of same) ∙ done)
 
-with_body : (words : List (List ℕ)) (files : Files) (i : InvokeWords) (file : List ℕ) (ops : List Op) (body : Option (List ℕ)) → command_of words ≡ Some (AsksInvoke i) → files i.module_name ≡ Some file → IsBuilt file ops
+with_body : (words : List (List ℕ)) (files : Files) (i : InvokeWords) (file : List ℕ) (program : Program) (body : Option (List ℕ)) → command_of words ≡ Some (AsksInvoke i) → files i.module_name ≡ Some file → IsAccepted file program
     → files i.body_name ≡ body → status_of (ending words files) ≡ status.Ok → AnswersInvoke i files (ending words files)
-with_body words files i file ops None is m b h done = absurd (not_done _ _ (body_missing words files i file ops is m b h) (λ bad. cc) done)
-with_body words files i file ops (Some body) is m b h done = at (nat_lt body_limit (length body)) refl
+with_body words files i file program None is m b h done = absurd (not_done _ _ (body_missing words files i file program is m b h) (λ bad. cc) done)
+with_body words files i file program (Some body) is m b h done = at (nat_lt body_limit (length body)) refl
   where
     at : (long : Bool) → nat_lt body_limit (length body) ≡ long → AnswersInvoke i files (ending words files)
-    at true e = absurd (not_done _ _ (built words files i file ops is m b ∙ from_body_check files i ops body _ h (ap (λ t. if t then Stops (recording_fault 76) else Goes body) e)) (λ bad. cc) done)
-    at false e = complete words files i file body ops is (m, h) b (fits_limit body_limit (length body) e)
+    at true e = absurd (not_done _ _ (accepted words files i file program is m b ∙ from_body_check files i program body _ h (ap (λ t. if t then Stops (recording_fault 76) else Goes body) e)) (λ bad. cc) done)
+    at false e = complete words files i file body program is (m, h) b (fits_limit body_limit (length body) e)
 
 with_module : (words : List (List ℕ)) (files : Files) (i : InvokeWords) (file : List ℕ) (parts : Module) → command_of words ≡ Some (AsksInvoke i) → files i.module_name ≡ Some file → SpellsModule file parts
     → status_of (ending words files) ≡ status.Ok → AnswersInvoke i files (ending words files)
 with_module words files i file parts is m s done = by_rules (module_walk parts) refl
   where
-    at : module_walk parts ≡ Ok tt → (ops : Option (List Op)) → built_of parts ≡ ops → AnswersInvoke i files (ending words files)
-    at v None e =
-        absurd (not_done _ _ (module_not_built words files i file is m (record { parts = parts; spelt = s; valid = v; other = is_not_built parts e })) (λ bad. cc) done)
-    at v (Some ops) e =
-        with_body words files i file ops (files i.body_name) is m (record { parts = parts; spelt = s; valid = v; built = built_is parts ops e }) refl done
+    by_links : module_walk parts ≡ Ok tt → (found : Result Program Unlinked) → link parts given_pages ≡ found → AnswersInvoke i files (ending words files)
+    by_links v (Ok program) l =
+        with_body words files i file program (files i.body_name) is m (record { parts = parts; spelt = s; valid = v; links = l }) refl done
+    by_links v (Err why) l =
+        absurd (not_done _ _ (module_unlinked words files i file why is m (record { parts = parts; spelt = s; valid = v; refused_first = unlinked_is parts given_pages why l })) (λ bad. cc) done)
 
     by_rules : (check : Check) → module_walk parts ≡ check → AnswersInvoke i files (ending words files)
-    by_rules (Ok passed) v = at v (built_of parts) refl
+    by_rules (Ok passed) v = by_links v (link parts given_pages) refl
     by_rules (Err broken) v =
         absurd (not_done _ _ (module_invalid words files i file broken is m (record { parts = parts; spelt = s; broken_first = v })) (λ bad. cc) done)
 

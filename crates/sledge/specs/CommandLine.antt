@@ -1,5 +1,5 @@
 -- The shapes of a command line: which words ask for which command.
-use Rattle.std.specs.Prelude.{ℕ, ◌^◌, nat_le, nat_lt, ◌&&◌, Bool, if◌then◌else◌, List, [], ◌∷◌, length, codes, Option, None, Some}
+use Rattle.std.specs.Prelude.{ℕ, ◌≤◌, ◌^◌, nat_le, nat_lt, ◌&&◌, Bool, if◌then◌else◌, List, [], ◌∷◌, length, codes, Option, None, Some}
 use Rattle.std.specs.List.{list_all}
 use Rattle.std.specs.Option.{option_map}
 use Rattle.std.specs.Str.{bytes_eq}
@@ -57,3 +57,9 @@ abbrev pub command_view : Command → Asked
 command_view command.Help = AsksHelp
 command_view command.Version = AsksVersion
 command_view (command.Invoke i) = AsksInvoke (invoke_view i)
+
+-- an `invoke` has a budget of at most 2^40
+abbrev pub IsWithin : Command → Type 0
+IsWithin command.Help = Unit {0}
+IsWithin command.Version = Unit {0}
+IsWithin (command.Invoke i) = i.budget ≤ 2 ^ 40

@@ -1,41 +1,39 @@
 -- The plan of each command: its words first, then each file read and checked in its order, then the run.
-use Rattle.std.specs.Prelude.{ℕ, List, Option, None, Some, Ok, Err}
+use Rattle.std.specs.Prelude.{ℕ, List, Option, None, Some, Result, Ok, Err}
 use Rattle.outside.specs.Library.{Files}
 use Rattle.wasm_ops.specs.declared.modules.Module.{Module}
-use Rattle.wasm_ops.specs.declared.operators.Op.{Op}
 use Rattle.wasm_code.specs.Bodies.{beginning}
 use Rattle.wasm_code.specs.Reading.{Read}
+use Rattle.wasm_meaning.specs.LinkRules.{link_number}
+use Rattle.wasm_meaning.specs.Programs.{Program, link}
+use Rattle.wasm_meaning.specs.Requests.{Request, Verdict, BudgetSpent, units, verdict}
 use Rattle.wasm_meaning.specs.Validity.{module_walk}
 use Rattle.wasm_meaning.specs.ValidityChecks.{Check}
+use Rattle.wasm_meaning.specs.declared.links.Unlinked.{Unlinked}
 use Rattle.wasm_reader.specs.Modules.{most_bytes, whole_module}
-use Rattle.sledge.specs.BuiltModule.{built_of}
+use Rattle.sledge.specs.Accepted.{given_pages}
 use Rattle.sledge.specs.CommandLine.{Asked, AsksHelp, AsksVersion, AsksInvoke, InvokeWords, command_of}
 use Rattle.sledge.specs.Endings.{Ended, answered, module_fault, recording_fault, shown, usage}
-use Rattle.sledge.specs.Execution.{Execution, execution_of}
 use Rattle.sledge.specs.Plans.{Plan, Ends, Step, Stops, Goes, checked_file, limited, over}
 use Rattle.sledge.specs.Texts.{help_text, version_text}
 
--- a module that is not yet run is refused
-abbrev pub not_built : Ended
-not_built = module_fault 0 90 0
-
--- the operators of a module that is run so far
-abbrev pub runnable : Option (List Op) → Step (List Op)
-runnable (Some ops) = Goes ops
-runnable None = Stops not_built
+-- a valid module that is linked, or what refuses it first
+abbrev pub linked : Result Program Unlinked → Step Program
+linked (Ok program) = Goes program
+linked (Err why) = Stops (module_fault 0 (link_number why.rule) why.item)
 
 -- a module that is valid, or breaks a rule first
-abbrev pub validated : Check → Module → Step (List Op)
-validated (Ok passed) parts = runnable (built_of parts)
+abbrev pub validated : Check → Module → Step Program
+validated (Ok passed) parts = linked (link parts given_pages)
 validated (Err broken) parts = Stops (module_fault 0 broken.number broken.item)
 
 -- what was read is a module, or has a fault
-abbrev pub module_step : Read Module → Step (List Op)
+abbrev pub module_step : Read Module → Step Program
 module_step (Ok read) = validated (module_walk read.0) read.0
 module_step (Err fault) = Stops (module_fault 0 fault.number fault.place)
 
--- a file as a module: it has at most 4 MiB, spells a module that is valid, and is one of those that are run so far
-unfoldable pub check_module : List ℕ → Step (List Op)
+-- a file as a program: it has at most 4 MiB, and spells a module that is valid and linked
+unfoldable pub check_module : List ℕ → Step Program
 check_module bytes = limited most_bytes (module_fault 0 21 0) (λ all. module_step (whole_module.read (beginning all))) bytes
 
 -- the most bytes of a request body: 1 MiB
@@ -46,23 +44,27 @@ body_limit = 1048576
 abbrev pub check_body : List ℕ → Step (List ℕ)
 check_body bytes = limited body_limit (recording_fault 76) (λ body. Goes body) bytes
 
--- the reply and the units of a run; no run of a module that is run so far gets stuck
-abbrev pub ran : Option Execution → Ended
-ran (Some run) = answered run
-ran None = not_built
+-- the program runs on the body within the budget
+abbrev pub request_of : Program → (budget : ℕ) → (body : List ℕ) → Request
+request_of program budget body = record { program = program; body = body; budget = budget }
 
--- the module runs on the body, which no operator reads so far
-abbrev pub run_on : List Op → (budget : ℕ) → (body : List ℕ) → Ended
-run_on ops budget body = ran (execution_of ops budget)
+-- each request to a program has a verdict; one that had none would end as if its budget were spent
+abbrev pub told : Option Verdict → Verdict
+told (Some found) = found
+told None = BudgetSpent
+
+-- the verdict of a request, and its units
+abbrev pub ran : Request → Ended
+ran request = answered (told (verdict request)) (units request)
 
 -- `invoke` from its body on
-abbrev pub body_plan : InvokeWords → List Op → Plan
-body_plan words ops = checked_file words.body_name body_limit check_body (λ body. Ends (run_on ops words.budget body))
+abbrev pub body_plan : InvokeWords → Program → Plan
+body_plan words program = checked_file words.body_name body_limit check_body (λ body. Ends (ran (request_of program words.budget body)))
 
 -- the ending on a body that was checked
-abbrev pub body_end : List Op → (budget : ℕ) → Step (List ℕ) → Ended
-body_end ops budget (Stops e) = e
-body_end ops budget (Goes body) = run_on ops budget body
+abbrev pub body_end : Program → (budget : ℕ) → Step (List ℕ) → Ended
+body_end program budget (Stops e) = e
+body_end program budget (Goes body) = ran (request_of program budget body)
 
 -- `invoke`: the module, then the body, then the run
 abbrev pub invoke_plan : InvokeWords → Plan

@@ -1,13 +1,9 @@
-pub mod BuiltModule
+pub mod Accepted
 pub mod CommandLine
 pub mod Commands
 pub mod Delivery
 pub mod Endings
-pub mod Execution
-pub mod Heights
-pub mod Machine
 pub mod Plans
 pub mod Promises
 pub mod Statuses
 pub mod Texts
-pub mod Typing

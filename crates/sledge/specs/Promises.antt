@@ -3,12 +3,11 @@ use Rattle.std.specs.Prelude.{◌≡◌, ◌⊎◌, ℕ, ◌≤◌, List, [], le
 use Rattle.outside.specs.Faults.{Rose}
 use Rattle.outside.specs.Library.{Files, LibraryState}
 use Rattle.outside.specs.Sink.{Appends, SinkState}
-use Rattle.wasm_ops.specs.declared.operators.Op.{Op}
-use Rattle.sledge.specs.BuiltModule.{IsBuilt}
+use Rattle.wasm_meaning.specs.Programs.{Program}
+use Rattle.sledge.specs.Accepted.{IsAccepted}
 use Rattle.sledge.specs.CommandLine.{InvokeWords}
-use Rattle.sledge.specs.Commands.{body_limit}
-use Rattle.sledge.specs.Endings.{Ended, answered}
-use Rattle.sledge.specs.Execution.{Execution, execution_of}
+use Rattle.sledge.specs.Commands.{body_limit, ran, request_of}
+use Rattle.sledge.specs.Endings.{Ended}
 use Rattle.sledge.specs.Texts.{line}
 use Rattle.sledge.specs.declared.status.Status.{Status}
 use Rattle.sledge.specs.declared.status.Status.TheVariants as status
@@ -31,19 +30,17 @@ Yields planned result lib lib' out out' notes notes' =
     ⊎ ((result ≡ status.WriteFault) × WriteRose out out' notes notes')
     ⊎ ((result ≡ status.ReadFault) × Rose lib.faults lib'.faults)
 
--- an `invoke` over these files is answered so: the module is of a kind that is run so far, the body is not too long,
--- and the reply and the units are those of the verdict on the module's operators within the budget
+-- an `invoke` over these files is answered so: the module's file spells a module that is valid and linked, the body is not too long,
+-- and the reply and the units are those of the verdict on the request to its program
 pub record AnswersInvoke (words : InvokeWords) (files : Files) (e : Ended) : Type 0 where
   pub file : List ℕ
-  pub ops : List Op
+  pub program : Program
   pub body : List ℕ
-  pub run : Execution
   pub holds_module : files words.module_name ≡ Some file
-  pub built : IsBuilt file ops
+  pub accepted : IsAccepted file program
   pub holds_body : files words.body_name ≡ Some body
   pub fits : length body ≤ body_limit
-  pub ran : execution_of ops words.budget ≡ Some run
-  pub ends : e ≡ answered run
+  pub ends : e ≡ ran (request_of program words.budget body)
 
 -- the files of an `invoke` are held: the module is this one, and the body too
 abbrev pub HoldsBoth : InvokeWords → Files → (file body : List ℕ) → Type 0

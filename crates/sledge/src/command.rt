@@ -1,11 +1,11 @@
 //! What the words of a command line ask for.
 
-ghost use Rattle.std.specs.Prelude.{◌≡◌, map};
+ghost use Rattle.std.specs.Prelude.{◌≡◌, ◌^◌, ◌≤◌, map, IfSome};
 ghost use Rattle.std.specs.Char.{is_ascii_digit};
 ghost use Rattle.std.specs.List.{list_all};
 ghost use Rattle.std.specs.Option.{option_map};
 ghost use Rattle.std.specs.String.{string_bytes};
-ghost use Rattle.sledge.specs.CommandLine.{command_of, budget_of, is_decimal, lone_word, command_view};
+ghost use Rattle.sledge.specs.CommandLine.{command_of, budget_of, is_decimal, lone_word, command_view, IsWithin};
 
 /// The most operators that an `invoke` may be given to spend.
 const GREATEST_BUDGET: u64 = 1 << 40;
@@ -38,7 +38,8 @@ pub struct Invoke<'a> {
 impl<'a> Command<'a> {
     /// The command that the words have the shape of, or `None`.
     pub fn parse(words: &'a [String]) -> Option<Command<'a>>
-        ensures { option_map command_view result ≡ command_of (map string_bytes words.now) }
+        ensures shape { option_map command_view result ≡ command_of (map string_bytes words.now) }
+        ensures within { IfSome result IsWithin }
     {
         match words {
             [word] => lone_word(word.as_str()),
@@ -60,7 +61,8 @@ impl<'a> Command<'a> {
 
 /// The command that is asked for by one word.
 fn lone_word(word: &str) -> Option<Command<'_>>
-    ensures { option_map command_view result ≡ lone_word word.now }
+    ensures shape { option_map command_view result ≡ lone_word word.now }
+    ensures within { IfSome result IsWithin }
 {
     if word == "--help" {
         Some(Command::Help)
@@ -73,7 +75,8 @@ fn lone_word(word: &str) -> Option<Command<'_>>
 
 /// The number that 1 to 20 decimal digits write, where it is at most 2^40.
 fn budget_of(word: &str) -> Option<u64>
-    ensures { result ≡ budget_of word.now }
+    ensures value { result ≡ budget_of word.now }
+    ensures within { IfSome result (λ budget. budget ≤ 2 ^ 40) }
 {
     if !is_decimal(word.as_bytes()) {
         return None;

@@ -2,13 +2,13 @@
 
 ghost use Rattle.std.specs.Prelude.{◌≡◌, IfOk};
 ghost use Rattle.sledge.specs.Endings.{answered, due, module_fault, not_read, recording_fault, reported_verdict, shown, usage};
-ghost use Rattle.sledge.specs.Machine.{execution_view, verdict_view};
-ghost use Rattle.http_front.specs.Reported.{reported};
+ghost use Rattle.sandbox_states.specs.Views.{told};
+ghost use Rattle.http_front.specs.Reported.{IsOutcome, reported};
 
-use crate::machine::{Execution, Verdict};
 use crate::status::Status;
 use crate::texts::OCTET_STREAM;
 use http_front::{Outcome, reply_text};
+use sandbox_states::{Answer, Verdict};
 use std::alloc::{AllocError, Global};
 use std::marker::Model;
 
@@ -119,25 +119,34 @@ impl Ending {
         })
     }
 
-    /// The module ran: the reply to a kept GET, and what the run cost.
-    pub fn answered(alloc: Global, run: Execution) -> Result<Ending, AllocError>
-        ensures { IfOk result (λ e. e ≡ due (answered (execution_view run))) }
+    /// The program ran: the reply to a kept GET, and what the run cost.
+    pub fn answered(alloc: Global, answer: &Answer) -> Result<Ending, AllocError>
+        ensures { IfOk result (λ e. e ≡ due (answered answer.now.verdict answer.now.units)) }
     {
-        let units = run.units;
+        let units = answer.units();
         Ok(Ending {
             status: Status::Ok,
-            text: reply_text(alloc, outcome_of(run.verdict), OCTET_STREAM, false, true)?,
+            text: reply_text(
+                alloc,
+                outcome_of(answer.verdict()),
+                OCTET_STREAM,
+                false,
+                true,
+            )?,
             note: format!(in alloc; "units {units}\n")?,
         })
     }
 }
 
-/// What the reply reports of a verdict.
-fn outcome_of(verdict: Verdict) -> Outcome<'static>
-    ensures { reported result ≡ reported_verdict (verdict_view verdict) }
+/// What the reply reports of a verdict. A program that ends itself with code 0 has replied.
+fn outcome_of(verdict: &Verdict) -> Outcome<'_>
+    ensures reports { reported result ≡ reported_verdict (told verdict.now) }
+    ensures tells { IsOutcome result }
 {
     match verdict {
-        Verdict::Replied => Outcome::Bytes(&[]),
+        Verdict::Replied(reply) => Outcome::Bytes(reply.bytes()),
+        Verdict::Exit { code: 0, reply } => Outcome::Bytes(reply.bytes()),
+        Verdict::Exit { code, .. } => Outcome::Exit(*code),
         Verdict::Trap(why) => Outcome::Trap(why.text()),
         Verdict::Spent => Outcome::Spent,
     }

@@ -1,29 +1,22 @@
 //! Laws of the definitions. Each function does nothing: its contract is the law.
 
-ghost use Rattle.std.specs.Prelude.{◌≡◌, ◌≢◌, ◌+◌, ◌<◌, ◌≤◌, ℕ, List, [], None, Some, length, sum};
+ghost use Rattle.std.specs.Prelude.{◌≡◌, ◌<◌, ◌≤◌, ℕ, List, None, Some, length};
 ghost use Rattle.outside.specs.Library.{Files};
+ghost use Rattle.wasm_ops.specs.Bytes.{AreBytes};
 ghost use Rattle.wasm_ops.specs.declared.faults.Fault.{Fault};
-ghost use Rattle.wasm_ops.specs.declared.operators.Op.{Op};
+ghost use Rattle.wasm_meaning.specs.LinkRules.{link_number};
+ghost use Rattle.wasm_meaning.specs.Programs.{Program};
+ghost use Rattle.wasm_meaning.specs.Requests.{Request, Verdict, verdict};
+ghost use Rattle.wasm_meaning.specs.declared.links.Unlinked.{Unlinked};
 ghost use Rattle.wasm_meaning.specs.declared.violations.Broken.{Broken};
 ghost use Rattle.wasm_reader.specs.Modules.{RefusesModule};
-ghost use Rattle.sledge.specs.BuiltModule.{IsBuilt, IsInvalid, IsNotBuilt};
+ghost use Rattle.sledge.specs.Accepted.{IsAccepted, IsInvalid, IsUnlinked};
 ghost use Rattle.sledge.specs.CommandLine.{AsksHelp, AsksInvoke, AsksVersion, InvokeWords, command_of};
 ghost use Rattle.sledge.specs.Commands.{body_limit, ending};
 ghost use Rattle.sledge.specs.Endings.{module_fault, not_read, recording_fault, shown, status_of, usage};
-ghost use Rattle.sledge.specs.Execution.{Stuck, run};
 ghost use Rattle.sledge.specs.Promises.{AnswersInvoke, HoldsBoth};
 ghost use Rattle.sledge.specs.Texts.{help_text, version_text};
-ghost use Rattle.sledge.specs.Typing.{IsTyped};
 ghost use Rattle.sledge.specs.declared.status.Status.TheVariants.{Ok as IsDone};
-
-/// The prices of a run and what is left of its budget make the budget. A body that is typed never
-/// gets stuck.
-pub fn runs()
-    ensures balance { (ops : List Op) (budget : ℕ)
-        → sum (run ops [] budget).prices + (run ops [] budget).left ≡ budget }
-    ensures never_stuck { (ops : List Op) (budget : ℕ)
-        → IsTyped ops → (run ops [] budget).outcome ≢ Stuck }
-{}
 
 /// How the words end that ask for no command, or for a text.
 pub fn shown_endings()
@@ -39,7 +32,7 @@ pub fn shown_endings()
 /// so there is no other ending.
 pub fn invoke_endings()
     // The module's file is missing; it is refused by its first fault; it spells a module that
-    // breaks a rule; it spells a valid one that is none of those that are run so far. What the body's file is does not matter.
+    // breaks a rule; it spells a valid one that is not linked. What the body's file is does not matter.
     ensures module_missing { (words : List (List ℕ)) (files : Files) (i : InvokeWords)
         → command_of words ≡ Some (AsksInvoke i) → files i.module_name ≡ None
         → ending words files ≡ not_read i.module_name }
@@ -53,26 +46,35 @@ pub fn invoke_endings()
         → command_of words ≡ Some (AsksInvoke i) → files i.module_name ≡ Some file
         → IsInvalid file broken
         → ending words files ≡ module_fault 0 broken.number broken.item }
-    ensures not_built { (words : List (List ℕ)) (files : Files) (i : InvokeWords) (file : List ℕ)
-        → command_of words ≡ Some (AsksInvoke i) → files i.module_name ≡ Some file → IsNotBuilt file
-        → ending words files ≡ module_fault 0 90 0 }
-
-    // It spells one that is run so far, and the body's file is missing, or too long, or neither.
-    ensures body_missing { (words : List (List ℕ)) (files : Files)
-        (i : InvokeWords) (file : List ℕ) (ops : List Op)
+    ensures module_unlinked { (words : List (List ℕ)) (files : Files)
+        (i : InvokeWords) (file : List ℕ) (why : Unlinked)
         → command_of words ≡ Some (AsksInvoke i) → files i.module_name ≡ Some file
-        → IsBuilt file ops → files i.body_name ≡ None → ending words files ≡ not_read i.body_name }
+        → IsUnlinked file why
+        → ending words files ≡ module_fault 0 (link_number why.rule) why.item }
+
+    // It spells one that is valid and linked, and the body's file is missing, or too long, or neither.
+    ensures body_missing { (words : List (List ℕ)) (files : Files)
+        (i : InvokeWords) (file : List ℕ) (program : Program)
+        → command_of words ≡ Some (AsksInvoke i) → files i.module_name ≡ Some file
+        → IsAccepted file program → files i.body_name ≡ None → ending words files ≡ not_read i.body_name }
     ensures body_too_long { (words : List (List ℕ)) (files : Files)
-        (i : InvokeWords) (file body : List ℕ) (ops : List Op)
-        → command_of words ≡ Some (AsksInvoke i) → HoldsBoth i files file body → IsBuilt file ops
+        (i : InvokeWords) (file body : List ℕ) (program : Program)
+        → command_of words ≡ Some (AsksInvoke i) → HoldsBoth i files file body → IsAccepted file program
         → body_limit < length body → ending words files ≡ recording_fault 76 }
     ensures complete { (words : List (List ℕ)) (files : Files)
-        (i : InvokeWords) (file body : List ℕ) (ops : List Op)
-        → command_of words ≡ Some (AsksInvoke i) → HoldsBoth i files file body → IsBuilt file ops
+        (i : InvokeWords) (file body : List ℕ) (program : Program)
+        → command_of words ≡ Some (AsksInvoke i) → HoldsBoth i files file body → IsAccepted file program
         → length body ≤ body_limit → AnswersInvoke i files (ending words files) }
 
     // And where it ends with status 0, it is answered by the verdict.
     ensures answered { (words : List (List ℕ)) (files : Files) (i : InvokeWords)
         → command_of words ≡ Some (AsksInvoke i) → status_of (ending words files) ≡ IsDone
         → AnswersInvoke i files (ending words files) }
+{}
+
+/// A request to the program of a file that is accepted has a verdict, whatever its body and budget.
+pub fn requests_have_verdicts()
+    ensures { (file : List ℕ) (program : Program) → AreBytes file → IsAccepted file program
+        → (request : Request) → request.program ≡ program
+        → (v : Verdict) × (verdict request ≡ Some v) }
 {}

@@ -1,19 +1,17 @@
 //! The program: the top calls, and `main`, which hands them the real outside.
 #![tactic(auto)]
 
-mod built_module;
 mod command;
 mod delivery;
 mod ending;
+mod execution;
 pub mod laws;
-mod machine;
 mod planning;
 mod status;
 #[cfg(test)]
 mod tests;
 mod texts;
 mod top;
-mod typing;
 
 use outside::{FileLibrary, OpenGate, StdNotes, StdSink};
 use std::env;

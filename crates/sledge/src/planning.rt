@@ -1,32 +1,31 @@
 //! From the words to the ending: reads each file in its order, checks it, and runs.
 
-ghost use Rattle.std.specs.Prelude.{◌≡◌, ◌≤◌, map, Some, IfOk, string_bytes};
-ghost use Rattle.std.specs.List.{AllByRecursion};
+ghost use Rattle.std.specs.Prelude.{◌≡◌, ◌^◌, ◌≤◌, map, IfOk, string_bytes};
+ghost use Rattle.wasm_meaning.specs.Programs.{link as link_due};
 ghost use Rattle.wasm_meaning.specs.Validity.{module_walk};
 ghost use Rattle.wasm_ops.specs.WellFormed.{IsWellFormed};
-ghost use Rattle.sledge.specs.BuiltModule.{IsBuiltOperator, built_of};
+ghost use Rattle.sledge.specs.Accepted.{given_pages};
 ghost use Rattle.sledge.specs.CommandLine.{invoke_view};
-ghost use Rattle.sledge.specs.Commands.{body_end, body_plan, check_body, check_module, invoke_plan, plan_for, runnable, validated};
+ghost use Rattle.sledge.specs.Commands.{body_end, body_plan, check_body, check_module, invoke_plan, linked, plan_for, validated};
 ghost use Rattle.sledge.specs.Endings.{due};
 ghost use Rattle.sledge.specs.Plans.{Comes, go_on};
-ghost use Rattle.sledge.specs.Typing.{IsTyped};
 
-use crate::built_module::built_operators;
 use crate::command::{Command, Invoke};
 use crate::ending::Ending;
-use crate::machine::execute;
+use crate::execution::execute;
 use crate::texts::{HELP, VERSION};
 use outside::{Fetch, Library};
 use std::alloc::{AllocError, Global};
-use wasm_ops::{Module, Op};
+use wasm_instance::{LinkFault, Program, link};
+use wasm_ops::Module;
 use wasm_reader::{MOST_BYTES, ReadFault, read_module};
 use wasm_validate::{Valid, ValidFault, validate};
 
 /// The most bytes of a request body.
 const BODY_LIMIT: u64 = 1 << 20;
 
-/// The refusal of a module that is none of those that are run so far.
-const NOT_BUILT: u8 = 90;
+/// The pages of 64 KiB that a program is given: 16 MiB.
+const GIVEN_PAGES: u32 = 256;
 
 /// The refusal of a body that is too long.
 const TOO_LONG: u8 = 76;
@@ -53,6 +52,7 @@ fn from_module<L: Library>(
     invoke: Invoke<'_>,
     lib: &mut L,
 ) -> Result<Ending, AllocError>
+    requires budget { invoke.budget ≤ 2 ^ 40 }
     ensures comes { IfOk result
         (Comes L.gave (invoke_plan (invoke_view invoke.entry)) lib.old lib.new) }
     ensures same { (L.state lib.new).held ≡ (L.state lib.old).held }
@@ -74,6 +74,7 @@ fn from_bytes<L: Library>(
     invoke: Invoke<'_>,
     lib: &mut L,
 ) -> Result<Ending, AllocError>
+    requires budget { invoke.budget ≤ 2 ^ 40 }
     ensures comes { IfOk result (Comes L.gave
         (go_on (body_plan (invoke_view invoke.entry)) (check_module bytes.now)) lib.old lib.new) }
     ensures same { (L.state lib.new).held ≡ (L.state lib.old).held }
@@ -93,6 +94,7 @@ fn from_parts<L: Library>(
     invoke: Invoke<'_>,
     lib: &mut L,
 ) -> Result<Ending, AllocError>
+    requires budget { invoke.budget ≤ 2 ^ 40 }
     requires formed { IsWellFormed parts }
     ensures comes { IfOk result (Comes L.gave (go_on (body_plan (invoke_view invoke.entry))
         (validated (module_walk parts) parts)) lib.old lib.new) }
@@ -100,7 +102,7 @@ fn from_parts<L: Library>(
     ensures later { (L.state lib.old).faults ≤ (L.state lib.new).faults }
 {
     match validate(alloc, parts) {
-        Ok(valid) => from_valid(alloc, &valid, invoke, lib),
+        Ok(valid) => from_valid(alloc, valid, invoke, lib),
         Err(ValidFault::Rule(broken)) => {
             Ending::module_fault(alloc, 0, broken.number, broken.item)
         }
@@ -111,37 +113,41 @@ fn from_parts<L: Library>(
 /// The ending of an `invoke` once its module is known to be valid.
 fn from_valid<L: Library>(
     alloc: Global,
-    valid: &Valid,
+    valid: Valid,
     invoke: Invoke<'_>,
     lib: &mut L,
 ) -> Result<Ending, AllocError>
+    requires budget { invoke.budget ≤ 2 ^ 40 }
     ensures comes { IfOk result (Comes L.gave (go_on (body_plan (invoke_view invoke.entry))
-        (runnable (built_of valid.now))) lib.old lib.new) }
+        (linked (link_due valid given_pages))) lib.old lib.new) }
     ensures same { (L.state lib.new).held ≡ (L.state lib.old).held }
     ensures later { (L.state lib.old).faults ≤ (L.state lib.new).faults }
 {
-    match built_operators(valid.module()) {
-        Some(ops) => from_body(alloc, ops, invoke, lib),
-        None => Ending::module_fault(alloc, 0, NOT_BUILT, 0),
+    match link(alloc, valid, GIVEN_PAGES) {
+        Ok(program) => from_body(alloc, program, invoke, lib),
+        Err(LinkFault::Refused(why)) => {
+            Ending::module_fault(alloc, 0, why.rule.number(), why.item)
+        }
+        Err(LinkFault::NoMemory) => Err(AllocError),
     }
 }
 
 /// The ending of an `invoke` from the reading of its body on.
 fn from_body<L: Library>(
     alloc: Global,
-    ops: &[Op],
+    program: Program,
     invoke: Invoke<'_>,
     lib: &mut L,
 ) -> Result<Ending, AllocError>
-    requires built { AllByRecursion IsBuiltOperator ops.now }
-    requires typed { IsTyped ops.now }
+    requires budget { invoke.budget ≤ 2 ^ 40 }
+    requires pages { program.pages ≡ given_pages }
     ensures comes { IfOk result
-        (Comes L.gave (body_plan (invoke_view invoke.entry) ops.now) lib.old lib.new) }
+        (Comes L.gave (body_plan (invoke_view invoke.entry) program) lib.old lib.new) }
     ensures same { (L.state lib.new).held ≡ (L.state lib.old).held }
     ensures later { (L.state lib.old).faults ≤ (L.state lib.new).faults }
 {
     match lib.read(alloc, invoke.body_name, BODY_LIMIT) {
-        Ok(body) => from_run(alloc, ops, body.as_slice(), invoke.budget),
+        Ok(body) => from_run(alloc, program, body, invoke.budget),
         Err(Fetch::Missing) => Ending::not_read(alloc, invoke.body_name),
         Err(Fetch::Failed) => Ending::not_read(alloc, invoke.body_name),
         Err(Fetch::NoMemory) => Err(AllocError),
@@ -149,13 +155,19 @@ fn from_body<L: Library>(
 }
 
 /// The ending once both files are read.
-fn from_run(alloc: Global, ops: &[Op], body: &[u8], budget: u64) -> Result<Ending, AllocError>
-    requires built { AllByRecursion IsBuiltOperator ops.now }
-    requires typed { IsTyped ops.now }
-    ensures { IfOk result (λ e. e ≡ due (body_end ops.now budget (check_body body.now))) }
+fn from_run(
+    alloc: Global,
+    program: Program,
+    body: Vec<u8>,
+    budget: u64,
+) -> Result<Ending, AllocError>
+    requires budget { budget ≤ 2 ^ 40 }
+    requires pages { program.pages ≡ given_pages }
+    ensures { IfOk result (λ e. e ≡ due (body_end program budget (check_body body.items))) }
 {
     if body.len() as u64 > BODY_LIMIT {
         return Ending::recording_fault(alloc, TOO_LONG);
     }
-    Ending::answered(alloc, execute(alloc, ops, budget)?)
+    let answer = execute(alloc, program, body, budget)?;
+    Ending::answered(alloc, &answer)
 }

@@ -1,4 +1,4 @@
-use Rattle.sledge.proofs.InvokeLaws.{body_missing, body_too_long, complete, done_is_answered, module_invalid, module_missing, module_not_built, module_refused}
+use Rattle.sledge.proofs.InvokeLaws.{body_missing, body_too_long, complete, done_is_answered, module_invalid, module_missing, module_refused, module_unlinked}
 use Rattle.sledge.proofs.laws.invoke_endings.Goals as goal
 
 pub returns-clause-module_missing : goal.returns-clause-module_missing
@@ -10,8 +10,8 @@ returns-clause-module_refused c = module_refused
 pub returns-clause-module_invalid : goal.returns-clause-module_invalid
 returns-clause-module_invalid c = module_invalid
 
-pub returns-clause-not_built : goal.returns-clause-not_built
-returns-clause-not_built c = module_not_built
+pub returns-clause-module_unlinked : goal.returns-clause-module_unlinked
+returns-clause-module_unlinked c = module_unlinked
 
 pub returns-clause-body_missing : goal.returns-clause-body_missing
 returns-clause-body_missing c = body_missing

@@ -1,12 +1,13 @@
-use Rattle.std.proofs.Common.{◌≡◌, Ok, Err, rules, ap, sym, subst, ◌∙◌}
+use Rattle.std.proofs.Common.{◌≡◌, Err, rules, ap, sym, subst, ◌∙◌}
 use Rattle.std.proofs.lemmas.Result.{IfOk-weaker}
 use Rattle.wasm_ops.specs.declared.modules.Module.{Module}
+use Rattle.wasm_meaning.specs.Programs.{link}
 use Rattle.wasm_meaning.specs.Validity.{module_walk}
 use Rattle.wasm_meaning.specs.ValidityChecks.{Check}
 use Rattle.sledge.proofs.Walking.{comes_end}
-use Rattle.sledge.specs.BuiltModule.{built_of}
+use Rattle.sledge.specs.Accepted.{given_pages}
 use Rattle.sledge.specs.CommandLine.{invoke_view}
-use Rattle.sledge.specs.Commands.{body_plan, runnable, validated}
+use Rattle.sledge.specs.Commands.{body_plan, linked, validated}
 use Rattle.sledge.specs.Plans.{Comes, go_on}
 use Rattle.sledge.proofs.planning.from_parts.Goals as goal
 
@@ -16,7 +17,7 @@ pub returns-in-Ok-clause-comes : goal.returns-in-Ok-clause-comes
 returns-in-Ok-clause-comes g c =
     IfOk-weaker c.from_valid.result _ _
     (λ e p. subst (λ step. Comes g.L.Library.gave (go_on (body_plan (invoke_view c.args.invoke)) step) c.args.lib.now c.from_valid.new.lib e)
-    (ap (λ (m : Module). runnable (built_of m)) c.in-Ok.ensures.same ∙ sym (ap (λ (check : Check). validated check c.args.parts) c.in-Ok.ensures.walked)) p)
+    (ap (λ (m : Module). linked (link m given_pages)) c.in-Ok.ensures.same ∙ sym (ap (λ (check : Check). validated check c.args.parts) c.in-Ok.ensures.walked)) p)
     c.from_valid.ensures.comes
 
 pub returns-in-Err-Rule-clause-comes : goal.returns-in-Err-Rule-clause-comes

@@ -1,10 +1,10 @@
 //! Prints what `read_recording` answers to each case of the file `cases`: the records, or the number of the refusal.
 //!
 //! A line of the file has a word, a number of tenants, bytes in hexadecimal (`-` for none) and a name. The word `read` asks for the answer to the bytes, and `cuts` for the refusal of each cut of them, the shortest first.
-//! `tests/recordings.py` makes the cases, and computes from the format alone what must be printed of them. The program stands on `recorded_runner`.
+//! `tests/recordings.py` makes the cases, and computes from the format alone what must be printed of them. The program stands on `recording_format`.
 #![tactic(auto)]
 
-use recorded_runner::{Event, Recording, RecordingFault, read_recording};
+use recording_format::{Event, Recording, RecordingFault, read_recording};
 use std::alloc::Global;
 use std::{fs, io};
 

@@ -1,0 +1,5 @@
+pub mod Queue
+pub mod Serving
+pub mod Held
+pub mod Drawing
+pub mod Counting

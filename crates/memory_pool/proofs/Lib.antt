@@ -1,0 +1,4 @@
+pub mod Keeping
+pub mod Handing
+pub mod Rows
+pub mod Ending

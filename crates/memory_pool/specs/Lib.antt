@@ -1,0 +1,4 @@
+pub mod Pooling
+pub mod Moves
+pub mod Passing
+pub mod Giving

@@ -41,6 +41,7 @@ impl Berth {
     pub fn pages(&self) -> u32
         ensures pages { result ≡ self.now.pages }
         ensures most { result ≤ 16384 }
+        ensures clean { IsClean self.now }
     {
         self.vessel.pages()
     }

@@ -1,5 +1,5 @@
 -- One operator as a part of a run, whatever is pending.
-use Rattle.std.proofs.Common.{◌≡◌, ◌⊎◌, inl, inr, ℕ, zero, suc, ◌+◌, ◌-◌, ◌≤◌, ◌<◌, ◌^◌, Bool, true, false, min, nat_lt, List, [], ◌∷◌, ◌++◌, length, sum, refl, sym, ap, subst, ◌∙◌, append_assoc, append-nil, arith}
+use Rattle.std.proofs.Common.{◌≡◌, ◌≢◌, ◌⊎◌, inl, inr, Some, None, ℕ, zero, suc, ◌+◌, ◌-◌, ◌≤◌, ◌<◌, ◌^◌, Bool, true, false, min, nat_lt, List, [], ◌∷◌, ◌++◌, length, sum, refl, sym, ap, subst, ◌∙◌, append_assoc, append-nil, arith}
 use Rattle.std.proofs.lemmas.Bool.Decides.{nat_tests}
 use Rattle.wasm_ops.specs.declared.host_calls.HostCall.{HostCall}
 use Rattle.wasm_meaning.specs.HostCalls.{Streams}
@@ -14,6 +14,7 @@ use Rattle.wasm_states.specs.Holding.{HoldsStore, Holds, IsState, free_moves}
 use Rattle.wasm_states.specs.HostCalls.{CanCall, Calls, IsHost, effect_of}
 use Rattle.wasm_states.specs.Running.{Running, Resting, StandsFor}
 use Rattle.wasm_states.specs.Steps.{item, IsOver, RunsOut, Reaches as StepReaches, Pays, Lacks}
+use Rattle.wasm_step.specs.Asking.{host_next}
 use Rattle.wasm_step.specs.Means.{Costs, IsFree}
 use Rattle.wasi_calls.proofs.HostRuns.{runs_as}
 use Rattle.wasi_calls.specs.Answers.{HostAnswers, GaveErrno, HasExited, FallsShort}
@@ -152,6 +153,19 @@ out_closes p w left price end s within out same items = (
 pub lacks_closes : (p : Program) (w : Pending) (left : ℕ) (s : Streams) → Lacks p w left → w.state.store.streams ≡ s → ClosesAt p w left close.Spent (0 ∷ []) s
 lacks_closes p w left s lacks same =
     subst (λ (x : Streams). ClosesAt p w left close.Spent (0 ∷ []) x) same (spent_closes p w left w.state.store.streams lacks.lacks)
+
+-- the host is asked, and the vessel is the same
+pub asked_there : (p : Program) (v v' : View) (call : HostCall) → v' ≡ v → host_next p v ≡ Some call.name → host_next p v' ≢ None
+asked_there p v v' call same asks none =
+    let here : host_next p v ≡ None = ap (λ (x : View). host_next p x) (sym same) ∙ none in
+    let bad : ⊥ = cc in absurd bad
+
+-- nothing is left, or the host is asked: it is spent only where nothing is left
+pub unpaid_closes
+    : (p : Program) (w : Pending) (v : View) (left : ℕ) (s : Streams) → (left ≡ 0) ⊎ (host_next p v ≢ None) → host_next p v ≡ None → Lacks p w 0 → w.state.store.streams ≡ s
+    → ClosesAt p w left close.Spent (0 ∷ []) s
+unpaid_closes p w v left s (inl none) quiet lacks same = lacks_closes p w left s (subst (λ (l : ℕ). Lacks p w l) (sym none) lacks) same
+unpaid_closes p w v left s (inr asked) quiet lacks same = absurd (asked quiet)
 
 -- an answer about the vessel as it was, at the vessel that is the same
 pub advances_from

@@ -1,9 +1,10 @@
 //! The operators of a turn.
-ghost use Rattle.std.specs.Prelude.{◌≡◌, ◌+◌, ◌-◌, ◌*◌, ◌^◌, ◌<◌, ◌≤◌};
+ghost use Rattle.std.specs.Prelude.{◌≡◌, ◌≢◌, ◌⊎◌, None, ◌+◌, ◌-◌, ◌*◌, ◌^◌, ◌<◌, ◌≤◌};
 ghost use Rattle.sandbox_states.specs.Paths.{Advances, Keeps, KeepsGroup, KeepsPause, KeepsRest, Parts, Pauses, Quantum, Rests, Stretches};
 ghost use Rattle.wasm_meaning.specs.Pending.{Pending};
 ghost use Rattle.wasm_states.specs.Holding.{Holds, IsState};
 ghost use Rattle.wasm_states.specs.HostCalls.{IsHost};
+ghost use Rattle.wasm_step.specs.Asking.{host_next};
 
 use wasi_calls::{HostStep, Streams, host};
 use wasm_instance::Program;
@@ -43,8 +44,11 @@ pub(crate) enum Progress {
 /// What came of operators of the function alone.
 #[derive(Clone, Copy, Debug, PartialEq, Eq)]
 pub(crate) enum Pause {
-    /// All is paid out, or the host is asked, after so many units.
-    Stopped { paid: u64 },
+    /// All is paid out.
+    Stopped,
+
+    /// The next operator calls a function of the host, after so many units.
+    Asked { paid: u64 },
 
     /// The run is over, after so many units.
     Over { end: Close, paid: u64 },
@@ -99,17 +103,19 @@ fn carry_out(
     }
 }
 
-// One operator, with a call of the host carried out.
+// One step, with a call of the host carried out, where nothing is left or the host is asked.
+// The 0 is written out: the arms of all other operators are then in no code but that of the loop below, and inside of it.
 #[inline(never)]
 fn advance(program: &Program, vessel: &mut Vessel, streams: &mut Streams, left: u64) -> Progress
     requires state { IsState program.now vessel.old }
+    requires unpaid { (left ≡ 0) ⊎ (host_next program.now vessel.old ≢ None) }
     ensures keeps { Keeps program.now left vessel.old vessel.new result }
     ensures means { (w : Pending) → Holds program.now vessel.old w → w.state.store.streams ≡ streams.old → Advances program.now w left vessel.new streams.new result }
     ensures pages { vessel.new.pages ≡ vessel.old.pages }
     ensures body { streams.new.body ≡ streams.old.body }
 {
-    match step(program, vessel, left) {
-        Step::Went(price) => Progress::Paid(price),
+    match step(program, vessel, 0) {
+        Step::Went(_) => unreachable!(),
         Step::Free => Progress::Free,
         Step::Host(call) => carry_out(program, vessel, streams, call, left),
         Step::Trapped { trap, price } => Progress::Over {
@@ -136,13 +142,22 @@ fn run_operators(program: &Program, vessel: &mut Vessel, most: u64) -> Pause
     ensures means { (w : Pending) → Holds program.now vessel.old w → Pauses most program.now w vessel.new result }
     ensures pages { vessel.new.pages ≡ vessel.old.pages }
 {
+    // These two tests tell the compiler that something is left before each step, which then does not ask for it.
+    if most == 0 {
+        return Pause::Stopped;
+    }
     let mut rest = most;
-    while rest != 0 {
+    loop {
         match step(program, vessel, rest) {
-            Step::Went(price) => rest -= price,
+            Step::Went(price) => {
+                rest -= price;
+                if rest == 0 {
+                    return Pause::Stopped;
+                }
+            }
             Step::Free => {}
-            Step::Host(_) => return Pause::Stopped { paid: most - rest },
-            Step::Short => return Pause::Stopped { paid: most - rest },
+            Step::Host(_) => return Pause::Asked { paid: most - rest },
+            Step::Short => unreachable!(),
             Step::Ended => return Pause::Over {
                 end: Close::Fell,
                 paid: most - rest,
@@ -153,7 +168,6 @@ fn run_operators(program: &Program, vessel: &mut Vessel, most: u64) -> Pause
             },
         }
     }
-    Pause::Stopped { paid: most }
 }
 
 // Some operators, that may cost as much as is left and is due.
@@ -174,8 +188,10 @@ fn run_part(
     if left == 0 {
         return advance(program, vessel, streams, left);
     }
-    match run_operators(program, vessel, left.min(due)) {
-        Pause::Stopped { paid } => {
+    let most = left.min(due);
+    match run_operators(program, vessel, most) {
+        Pause::Stopped => Progress::Paid(most),
+        Pause::Asked { paid } => {
             if paid == 0 {
                 advance(program, vessel, streams, left)
             } else {

@@ -1,5 +1,5 @@
 -- Locals among the cells: they lie under the operands of their call and on all that is below it.
-use Rattle.std.proofs.Common.{◌≡◌, ℕ, zero, suc, ◌+◌, ◌<◌, ◌≤◌, List, [], ◌∷◌, ◌++◌, length, reverse, Option, Some, slice_get, slice_set, refl, sym, ap, ◌∙◌, append_assoc, length-append, arith}
+use Rattle.std.proofs.Common.{◌≡◌, ℕ, zero, suc, ◌+◌, ◌-◌, ◌<◌, ◌≤◌, List, [], ◌∷◌, ◌++◌, length, drop, reverse, Option, Some, slice_get, slice_set, refl, sym, ap, ◌∙◌, append_assoc, length-append, arith}
 use Rattle.std.proofs.lemmas.List.{reverse-append, reverse-reverse, length-reverse}
 use Rattle.wasm_ops.specs.declared.modules.Module.{Module}
 use Rattle.wasm_ops.specs.Sequence.{Sequence}
@@ -56,6 +56,18 @@ pub set_ranged : (values : List Value) (j : ℕ) (value : Value) → AreRanged v
 set_ranged [] j value all is = tt
 set_ranged (v ∷ values) zero value all is = (is, all.1)
 set_ranged (v ∷ values) (suc j) value all is = (all.0, set_ranged values j value all.1 is)
+
+-- a value in the place of the top cell
+pub set_top : (cells : List ℕ) (n : ℕ) → 0 < length cells → reverse (slice_set (reverse cells) (length cells - 1) n) ≡ n ∷ drop 1 cells
+set_top [] n some = let bad : ⊥ = omega (arith, some) in absurd bad
+set_top (c ∷ cells) n some =
+    let long = length-reverse cells in
+    let place : length (c ∷ cells) - 1 ≡ length (reverse cells) + 0 = omega (arith, long) in
+    ap (λ (k : ℕ). reverse (slice_set (reverse (c ∷ cells)) k n)) place
+    ∙ ap (λ (ns : List ℕ). reverse (slice_set ns (length (reverse cells) + 0) n)) (reverse-append (c ∷ []) cells)
+    ∙ ap (λ (ns : List ℕ). reverse ns) (set_behind (reverse cells) (c ∷ []) 0 n)
+    ∙ reverse-append (reverse cells) (n ∷ [])
+    ∙ ap (λ (ns : List ℕ). n ∷ ns) (reverse-reverse cells)
 
 -- Cells that lie between others.
 

@@ -62,9 +62,6 @@ module _ (p : Program) (v : View) (access : Access) (align offset : ℕ) (at : I
       let small = number_ranged I32 u.value u.has all.0 in
       omega (arith, same, small)
 
-  pub load_room : (v1 : View) → v1 ≡ popped v → length v1.cells < 65536
-  load_room v1 off = subst (λ (x : View). length x.cells < 65536) (sym off) (room_for v.cells load_some (fits_in p v (op.Load access align offset) at))
-
   load_effect_is
       : (rest : Sequence) (around : List Around) (st : State) → (h : Holds p (before v) (pending_at (Plain (op.Load access align offset) rest) around st))
       → (r : Running p (before v) (pending_at (Plain (op.Load access align offset) rest) around st)) → (n : ℕ) (answer : Option ℕ) → slice_get v.cells 0 ≡ Some n

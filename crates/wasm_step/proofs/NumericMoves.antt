@@ -24,7 +24,7 @@ use Rattle.wasm_states.specs.Chains.{cells_under}
 use Rattle.wasm_states.specs.Holding.{Holds}
 use Rattle.wasm_states.specs.Running.{Running}
 use Rattle.wasm_states.specs.Steps.{Moves, Stops}
-use Rattle.wasm_step.proofs.Going.{plainly, fits_in, has_all, Going, going_moves, trapping_stops, stack_goes, top_number, rest_numbers, some_cell, rest_ranged}
+use Rattle.wasm_step.proofs.Going.{plainly, has_all, Going, going_moves, trapping_stops, stack_goes, top_number, rest_numbers, some_cell, rest_ranged}
 use Rattle.wasm_step.proofs.Shapes.{number_of_value, value_ranged, number_ranged, Unary, unary_has, Binary, binary_has, Dropped, drop_has, Selected, select_has}
 use Rattle.wasm_step.specs.Arms.{before, IsAt}
 
@@ -38,9 +38,6 @@ pushed n v = record v { cells = n ∷ v.cells }
 
 pub room_for : (cells : List ℕ) → 0 < length cells → length cells ≤ 65536 → length (drop 1 cells) < 65536
 room_for cells some few = omega (arith, some, few, length-drop 1 cells)
-
-pub next_room : (cells : List ℕ) → length cells ≤ 65536 → length (drop 1 cells) ≤ 65536
-next_room cells few = omega (arith, few, length-drop 1 cells)
 
 pub moved_as : (p : Program) (u v' v'' : View) (price : ℕ) → v'' ≡ v' → Moves p u v' price → Moves p u v'' price
 moved_as p u v' v'' price same m = subst (λ (x : View). Moves p u x price) (sym same) m
@@ -102,9 +99,6 @@ module _ (p : Program) (v : View) (byte : ℕ) (at : IsAt p v (op.Unary byte)) w
       subst (λ (o : Option Operation). IfSome o (λ operation. IsOfType (operand_of operation) n)) (sym u.is)
       (subst (λ (k : ℕ). IsOfType (operand_of u.operation) k) (sym same) small)
 
-  pub unary_room : (v1 : View) → v1 ≡ popped v → length v1.cells < 65536
-  unary_room v1 off = subst (λ (x : View). length x.cells < 65536) (sym off) (room_for v.cells unary_some (fits_in p v (op.Unary byte) at))
-
   unary_gives
       : (rest : Sequence) (around : List Around) (st : State) → Holds p (before v) (pending_at (Plain (op.Unary byte) rest) around st)
       → Running p (before v) (pending_at (Plain (op.Unary byte) rest) around st) → (n m : ℕ) → slice_get v.cells 0 ≡ Some n → unary_result byte n ≡ Some m → IsResult byte m
@@ -160,10 +154,6 @@ module _ (p : Program) (v : View) (byte : ℕ) (at : IsAt p v (op.Binary byte)) 
 
   pub binary_next : (v1 : View) → v1 ≡ popped v → 0 < length v1.cells
   binary_next v1 off = subst (λ (x : View). 0 < length x.cells) (sym off) binary_more
-
-  pub binary_room : (v1 v2 : View) → v1 ≡ popped v → v2 ≡ popped v1 → length v2.cells < 65536
-  binary_room v1 v2 off off2 =
-      subst (λ (x : View). length x.cells < 65536) (sym (off2 ∙ ap popped off)) (room_for (drop 1 v.cells) binary_more (next_room v.cells (fits_in p v (op.Binary byte) at)))
 
   pub binary_two : IsOfTwo byte
   binary_two =
@@ -307,11 +297,6 @@ module _ (p : Program) (v : View) (at : IsAt p v op.Select) where
 
   pub select_then : (v1 v2 : View) → v1 ≡ popped v → v2 ≡ popped v1 → 0 < length v2.cells
   select_then v1 v2 off off2 = subst (λ (x : View). 0 < length x.cells) (sym (off2 ∙ ap popped off)) select_last
-
-  pub select_room : (v1 v2 v3 : View) → v1 ≡ popped v → v2 ≡ popped v1 → v3 ≡ popped v2 → length v3.cells < 65536
-  select_room v1 v2 v3 off off2 off3 =
-      subst (λ (x : View). length x.cells < 65536) (sym (off3 ∙ ap popped (off2 ∙ ap popped off)))
-      (room_for (drop 1 (drop 1 v.cells)) select_last (next_room (drop 1 v.cells) (next_room v.cells (fits_in p v op.Select at))))
 
   chosen_number : (b : Bool) (first second : Value) → cond b (number_in second) (number_in first) ≡ number_in (cond b second first)
   chosen_number true first second = refl

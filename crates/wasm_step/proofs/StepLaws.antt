@@ -18,7 +18,7 @@ use Rattle.wasm_step.specs.Arms.{before, IsAt, Acts}
 use Rattle.wasm_step.specs.Arguments.{Asks}
 use Rattle.wasm_step.specs.Asking.{asked_by, Asking}
 use Rattle.wasm_step.specs.Does.{Ends, Calls, IsPriced, Shorts, Does}
-use Rattle.wasm_step.specs.Means.{Keeps, Means}
+use Rattle.wasm_step.specs.Means.{Keeps, Means, IsSpent}
 use Rattle.wasm_step.specs.declared.answers.Step.{Step}
 use Rattle.wasm_step.specs.declared.answers.Step.TheVariants as step
 
@@ -80,6 +80,14 @@ asking_of p v v' most (step.Host call) does = does.2
 asking_of p v v' most (step.Trapped trap price) does = tt
 asking_of p v v' most step.Ended does = tt
 asking_of p v v' most step.Short does = does.3
+
+pub spent_of : (p : Program) (v v' : View) (most left : ℕ) (answer : Step) → (most ≡ 0 → left ≡ 0) → Does p most v v' answer → IsSpent left answer
+spent_of p v v' most left (step.Went price) nothing does = tt
+spent_of p v v' most left step.Free nothing does = tt
+spent_of p v v' most left (step.Host call) nothing does = tt
+spent_of p v v' most left (step.Trapped trap price) nothing does = tt
+spent_of p v v' most left step.Ended nothing does = tt
+spent_of p v v' most left step.Short nothing does = nothing does.0
 
 -- the same, told of an equal vessel
 pub does_as : (p : Program) (most : ℕ) (u v v' : View) (answer : Step) → u ≡ v → Does p most u v' answer → Does p most v v' answer

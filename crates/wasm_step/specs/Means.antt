@@ -38,3 +38,8 @@ Means p w v left v' (step.Host call) = Calls p w v call
 Means p w v left v' (step.Trapped trap price) = RunsOut p w price (Trapped trap)
 Means p w v left v' step.Ended = RunsOut p w 0 Fell
 Means p w v left v' step.Short = Pays p w × Lacks p w left
+
+-- an operator is short only where nothing is left
+abbrev pub IsSpent : (left : ℕ) → Step → Type 0
+IsSpent left step.Short = left ≡ 0
+IsSpent left answer = Unit {0}

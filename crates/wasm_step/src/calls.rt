@@ -14,7 +14,7 @@ use wasm_ops::{HostCall, HostName, Trap};
 use wasm_store::Vessel;
 
 /// A call of the function with an index.
-#[inline(never)]
+#[inline(always)]
 pub(crate) fn call(program: &Program, vessel: &mut Vessel, index: u32) -> Step
     requires at { IsAt program.now vessel.old (op.Call index) }
     ensures calls { Calls program.now (before vessel.old) vessel.new result }
@@ -28,7 +28,7 @@ pub(crate) fn call(program: &Program, vessel: &mut Vessel, index: u32) -> Step
 }
 
 /// A call of a function of this type, which the top cell's element in the table names.
-#[inline(never)]
+#[inline(always)]
 pub(crate) fn call_indirect(program: &Program, vessel: &mut Vessel, type_index: u32) -> Step
     requires at { IsAt program.now vessel.old (op.CallIndirect type_index) }
     ensures calls { Calls program.now (before vessel.old) vessel.new result }
@@ -48,6 +48,7 @@ pub(crate) fn call_indirect(program: &Program, vessel: &mut Vessel, type_index: 
 }
 
 // A call of the function with an index, which was found in the table, if it has this type.
+#[inline(always)]
 fn call_element(program: &Program, vessel: &mut Vessel, type_index: u32, index: u32) -> Step
     requires at { IsAt program.now vessel.old (op.CallIndirect type_index) }
     requires element { (place : ℕ) → slice_get vessel.old.cells 0 ≡ Some place → slice_get vessel.old.table place ≡ Some (Some index) }
@@ -71,6 +72,7 @@ fn call_element(program: &Program, vessel: &mut Vessel, type_index: u32, index: 
 }
 
 // Begins a call of a body, whose arguments lie on top of the cells, if there is room for it.
+#[inline(always)]
 fn enter_body(vessel: &mut Vessel, body: u32, shape: Shape) -> Step
     requires arguments { shape.params ≤ length vessel.old.cells }
     requires zeros { has_room_for shape.cells vessel.old ≡ true → length vessel.old.cells + shape.locals ≤ 65536 }
@@ -89,6 +91,7 @@ fn enter_body(vessel: &mut Vessel, body: u32, shape: Shape) -> Step
 }
 
 // A call of a function of the host, before which the code stands again.
+#[inline(always)]
 pub(crate) fn ask(vessel: &mut Vessel, name: HostName, indirect: bool) -> Step
     requires passed { 1 ≤ vessel.old.place }
     requires there { ArgumentsThere name (places_of indirect) vessel.old.cells }
@@ -106,6 +109,7 @@ pub(crate) fn ask(vessel: &mut Vessel, name: HostName, indirect: bool) -> Step
 }
 
 // The arguments of a call of the host, the first one first, which lie under so many other cells.
+#[inline(never)]
 fn arguments(vessel: &Vessel, name: HostName, under: u32) -> [u32; 4]
     requires few { under ≤ 1 }
     requires there { ArgumentsThere name under vessel.now.cells }

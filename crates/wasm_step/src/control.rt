@@ -121,7 +121,7 @@ pub(crate) fn end(program: &Program, vessel: &mut Vessel) -> Step
 }
 
 // Ends the call that runs, with its result.
-#[inline(never)]
+#[inline(always)]
 fn leave_call(program: &Program, vessel: &mut Vessel)
     requires can { CanLeave program.now vessel.old }
     ensures { vessel.new ≡ leave_view program.now vessel.old }

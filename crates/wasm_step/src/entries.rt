@@ -42,7 +42,7 @@ pub(crate) fn enter(vessel: &mut Vessel, body: u32, params: u32, locals: u32, ce
 }
 
 /// Enters the next body from outside, if there is one.
-#[inline(never)]
+#[inline(always)]
 pub(crate) fn next_entry(program: &Program, vessel: &mut Vessel) -> Step
     requires at { IsAt program.now vessel.old op.End }
     requires rests { length vessel.old.frames ≡ 0 }
@@ -57,6 +57,7 @@ pub(crate) fn next_entry(program: &Program, vessel: &mut Vessel) -> Step
     }
 }
 
+#[inline(always)]
 fn enter_from_outside(program: &Program, vessel: &mut Vessel, body: u32) -> Step
     requires state { IsState program.now vessel.old }
     requires rests { length vessel.old.frames ≡ 0 }

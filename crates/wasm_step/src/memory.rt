@@ -7,6 +7,7 @@ ghost use Rattle.wasm_ops.specs.declared.operators.Op.TheVariants as op;
 ghost use Rattle.wasm_step.specs.Arms.{Acts, IsAt, before};
 
 use crate::answers::Step;
+use crate::numeric::replace_top;
 use wasm_instance::Program;
 use wasm_ops::{Access, Trap, ValType};
 use wasm_store::Vessel;
@@ -63,10 +64,10 @@ pub(crate) fn load(
     ensures acts { Acts _program.now (before vessel.old) vessel.new result }
     ensures pages { vessel.new.pages ≡ vessel.old.pages }
 {
-    let base = vessel.pop();
+    let base = vessel.operand(0);
     match vessel.load(base + u64::from(offset), u32::from(access.width)) {
         Some(number) => {
-            vessel.push(widen(access, number));
+            replace_top(vessel, widen(access, number));
             Step::Went(1)
         }
         None => Step::Trapped {

@@ -1,11 +1,12 @@
 //! One step of a running function.
-ghost use Rattle.std.specs.Prelude.{◌≡◌};
+ghost use Rattle.std.specs.Prelude.{◌≡◌, true, is_some, Some};
 ghost use Rattle.wasm_meaning.specs.Pending.{Pending};
+ghost use Rattle.wasm_states.specs.Codes.{operator_at};
 ghost use Rattle.wasm_states.specs.Holding.{Holds, IsState};
 ghost use Rattle.wasm_step.specs.Arms.{IsAt, before};
 ghost use Rattle.wasm_step.specs.Asking.{Asking};
 ghost use Rattle.wasm_step.specs.Does.{Does};
-ghost use Rattle.wasm_step.specs.Means.{Keeps, Means};
+ghost use Rattle.wasm_step.specs.Means.{IsSpent, Keeps, Means};
 
 use crate::answers::Step;
 use crate::calls::{call, call_indirect};
@@ -30,25 +31,37 @@ pub fn step(program: &Program, vessel: &mut Vessel, left: u64) -> Step
     ensures keeps { Keeps program.now vessel.old left vessel.new result }
     ensures means { (w : Pending) → Holds program.now vessel.old w → Means program.now w vessel.old left vessel.new result }
     ensures asks { Asking program.now vessel.old result }
+    ensures short { IsSpent left result }
     ensures pages { vessel.new.pages ≡ vessel.old.pages }
 {
     if left == 0 {
         return step_for_nothing(program, vessel);
     }
     let place = vessel.place();
-    let operator = program.operator(vessel.function(), place);
+    let operator = fetch(program, vessel.function(), place);
     vessel.go_to(place + 1);
     act(program, vessel, operator)
 }
 
+// The operator at a place of a body, where it stands.
+#[inline(always)]
+fn fetch(program: &Program, body: u32, place: u32) -> &Op
+    requires there { is_some (operator_at program.now.linked body place) ≡ true }
+    ensures { operator_at program.now.linked body place ≡ Some result.now }
+{
+    &program.module().bodies.as_slice()[body as usize]
+        .ops
+        .as_slice()[place as usize]
+}
+
 // Runs an operator, behind which the code stands.
 #[inline(always)]
-fn act(program: &Program, vessel: &mut Vessel, operator: Op) -> Step
-    requires at { IsAt program.now vessel.old operator }
+fn act(program: &Program, vessel: &mut Vessel, operator: &Op) -> Step
+    requires at { IsAt program.now vessel.old operator.now }
     ensures does { Does program.now 1 (before vessel.old) vessel.new result }
     ensures pages { vessel.new.pages ≡ vessel.old.pages }
 {
-    match operator {
+    match *operator {
         Op::LocalGet(index) => local_get(program, vessel, index),
         Op::LocalSet(index) => local_set(program, vessel, index),
         Op::LocalTee(index) => local_tee(program, vessel, index),

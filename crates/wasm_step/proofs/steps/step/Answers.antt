@@ -1,6 +1,6 @@
 use Rattle.std.proofs.Common.{arith}
 use Rattle.wasm_step.specs.Arms.{before}
-use Rattle.wasm_step.proofs.StepLaws.{operator_found, op_found, next_fits, passed_at, before_is, does_as, keeps_of, means_of, asking_of}
+use Rattle.wasm_step.proofs.StepLaws.{operator_found, op_found, next_fits, passed_at, before_is, does_as, keeps_of, means_of, asking_of, spent_of}
 use Rattle.wasm_step.proofs.steps.step.Goals as goal
 
 pub returns-then-left-eq0-clause-asks : goal.returns-then-left-eq0-clause-asks
@@ -12,14 +12,14 @@ returns-clause-asks c = asking_of c.args.program.now c.args.vessel.now c.act.new
 pub returns-then-left-eq0-clause-keeps : goal.returns-then-left-eq0-clause-keeps
 returns-then-left-eq0-clause-keeps c = keeps_of c.args.program.now c.args.vessel.now c.step_for_nothing.new.vessel 0 c.args.left c.step_for_nothing.result c.requires.state (omega arith) c.step_for_nothing.ensures.does
 
-pub operator-operator-requires : goal.operator-operator-requires
-operator-operator-requires c = record { there = operator_found c.args.program.now c.args.vessel.now c.function.result c.place-place.result c.requires.state c.function.ensures c.place-place.ensures }
+pub fetch-operator-requires : goal.fetch-operator-requires
+fetch-operator-requires c = record { there = operator_found c.args.program.now c.args.vessel.now c.function.result c.place-place.result c.requires.state c.function.ensures c.place-place.ensures }
 
 pub overflow_add-place : goal.overflow_add-place
-overflow_add-place c = record { fits = next_fits c.args.program.now c.args.vessel.now c.operator-operator.result c.place-place.result c.requires.state (op_found c.args.program.now c.args.vessel.now c.function.result c.place-place.result c.operator-operator.result c.function.ensures c.place-place.ensures c.operator-operator.ensures) c.place-place.ensures }
+overflow_add-place c = record { fits = next_fits c.args.program.now c.args.vessel.now c.fetch-operator.result.now c.place-place.result c.requires.state (op_found c.args.program.now c.args.vessel.now c.function.result c.place-place.result c.fetch-operator.result.now c.function.ensures c.place-place.ensures c.fetch-operator.ensures) c.place-place.ensures }
 
 pub act-requires : goal.act-requires
-act-requires c = record { at = passed_at c.args.program.now c.args.vessel.now c.go_to.new.self c.operator-operator.result c.place-place.result c.requires.state (op_found c.args.program.now c.args.vessel.now c.function.result c.place-place.result c.operator-operator.result c.function.ensures c.place-place.ensures c.operator-operator.ensures) c.place-place.ensures c.go_to.ensures }
+act-requires c = record { at = passed_at c.args.program.now c.args.vessel.now c.go_to.new.self c.fetch-operator.result.now c.place-place.result c.requires.state (op_found c.args.program.now c.args.vessel.now c.function.result c.place-place.result c.fetch-operator.result.now c.function.ensures c.place-place.ensures c.fetch-operator.ensures) c.place-place.ensures c.go_to.ensures }
 
 pub returns-then-left-eq0-clause-means : goal.returns-then-left-eq0-clause-means
 returns-then-left-eq0-clause-means c = means_of c.args.program.now c.args.vessel.now c.step_for_nothing.new.vessel 0 c.args.left c.step_for_nothing.result (λ e. c.if-left-eq0.true) c.step_for_nothing.ensures.does
@@ -29,3 +29,9 @@ returns-clause-keeps c = keeps_of c.args.program.now c.args.vessel.now c.act.new
 
 pub returns-clause-means : goal.returns-clause-means
 returns-clause-means c = means_of c.args.program.now c.args.vessel.now c.act.new.vessel 1 c.args.left c.act.result (λ e. let bad : ⊥ = omega (arith, e) in absurd bad) (does_as c.args.program.now 1 (before c.go_to.new.self) c.args.vessel.now c.act.new.vessel c.act.result (before_is c.args.vessel.now c.go_to.new.self c.place-place.result c.place-place.ensures c.go_to.ensures) c.act.ensures.does)
+
+pub returns-then-left-eq0-clause-short : goal.returns-then-left-eq0-clause-short
+returns-then-left-eq0-clause-short c = spent_of c.args.program.now c.args.vessel.now c.step_for_nothing.new.vessel 0 c.args.left c.step_for_nothing.result (λ e. c.if-left-eq0.true) c.step_for_nothing.ensures.does
+
+pub returns-clause-short : goal.returns-clause-short
+returns-clause-short c = spent_of c.args.program.now (before c.go_to.new.self) c.act.new.vessel 1 c.args.left c.act.result (λ e. let bad : ⊥ = omega (arith, e) in absurd bad) c.act.ensures.does

@@ -1,0 +1,57 @@
+//! Prints what becomes of requests that run in turns, and in which states programs begin, for each case of the file `cases`.
+//!
+//! A line of the file is `turns MODULE BODY BUDGET QUANTUM`, which asks for the answer to a request in turns of this quantum; `fresh MODULE PAGES`, which asks for the state in which the module begins with so many pages; or `repeat MODULE PAGES COUNT`, which answers so many requests without a body on one vessel of so many pages. Modules and bodies stand in hexadecimal, `-` for no bytes.
+//! The requests of `turns` run on one vessel of 256 pages, so each begins on what the one before it left behind.
+//! `tests/turns.py` and `tests/fresh_states.py` make the cases, and compute from the standard alone what must be printed of them. The program stands on `sandbox_states` and what is below it.
+#![tactic(auto)]
+
+mod cases;
+mod fresh_states;
+mod programs;
+mod requests;
+
+use cases::Case;
+use fresh_states::print_fresh;
+use memory_pool::Berth;
+use requests::{print_repeated, print_turns};
+use std::{fs, io};
+
+/// Prints the line of a case.
+fn print_case(
+    rt: &(impl Print + AllocGlobal),
+    line: &str,
+    berth: &mut Option<Berth>,
+) -> io::Result<()> {
+    match Case::parse(line) {
+        Some(Case::Turns(asked)) => print_turns(rt, asked, berth),
+        Some(Case::Fresh { module, pages }) => print_fresh(rt, module, pages),
+        Some(
+            Case::Repeat {
+                module,
+                pages,
+                count,
+            },
+        ) => print_repeated(rt, module, pages, count),
+        None => println!(rt; "no case: {line}"),
+    }
+}
+
+/// Prints the line of each case.
+fn print_all(
+    rt: &(impl Print + AllocGlobal),
+    cases: &str,
+    berth: &mut Option<Berth>,
+) -> io::Result<()> {
+    for line in cases.lines() {
+        print_case(rt, line, berth)?;
+    }
+    Ok(())
+}
+
+fn main(rt: HostRuntime) -> io::Result<()> {
+    let cases = fs::read_to_string(&rt, "cases")?;
+    let mut berth = None;
+    let printed = print_all(&rt, &cases, &mut berth);
+    drop(berth);
+    printed
+}

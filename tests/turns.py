@@ -1,0 +1,213 @@
+#!/usr/bin/env python3
+"""Requests in turns: cases, and what an interpreter apart from the repository's code says of them.
+
+    turns.py cases            prints the cases that `crates/turns_table` reads, with those of fresh_states.py behind them
+    turns.py table            prints what it must print of them
+    turns.py check FOLDER     compares both with FOLDER/data/cases and FOLDER/stdout
+
+A case is a line `turns MODULE BODY BUDGET QUANTUM`. Each program is run with each quantum, so that verdict and units are seen to be
+the same and the turns those of the prices (docs/DEFINITIONS.md). In ROWS the answer is written out by hand, and the interpreter has to
+agree with it. All requests run on one vessel, in the order of the cases.
+"""
+
+import random
+import sys
+
+import fresh_states
+import interpreter
+import module_validator
+import programs
+from host_calls import EXIT, WRITE, call, const, filled, laid
+from host_calls import program as calling
+from module_writer import body, module, text
+
+QUANTA = [1, 2, 3, 7, 100, 2**32 - 1]
+GREATEST = 2**64 - 1
+START = ["06 5F 73 74 61 72 74 00 00"]
+
+
+def one(operators, **parts):
+    """A module whose only function is `_start`."""
+    return module(bodies=[operators], exports=START, **parts)
+
+
+NOTHING, UNREACHABLE, ENDLESS = one(""), one("00"), one("03 40 0C 00 0B")
+NOPS, BY_ZERO = one("01 01 01"), one("41 07 41 00 6E 1A")
+# Blocks that are left and come to their ends: moves that cost nothing, in front of operators and behind the last one.
+BLOCKS = one("02 40 02 40 02 40 01 0B 0B 0B 02 40 0C 00 0B 41 00 04 40 01 05 01 01 0B 02 40 02 40 0C 01 0B 0B")
+# A function that calls itself until no frame is left: the last call is paid, and entering traps for nothing.
+DEEP = module(functions=["00"], bodies=["10 00"], exports=START)
+CALLS = text(
+    "00 61 73 6D 01 00 00 00 01 08 02 60 00 00 60 01 7F 00 03 03 02 00 01 07 0A 01 06 5F 73 74 61 72 74 00 00"
+    "0A 18 02 07 00 41 FE 1F 10 01 0B 0E 00 20 00 04 40 20 00 41 01 6B 10 01 0B 0B"
+)
+ECHO = text(
+    "00 61 73 6D 01 00 00 00 01 0C 02 60 04 7F 7F 7F 7F 01 7F 60 00 00 02 44 02 16 77 61 73 69 5F 73 6E 61 70 73 68 6F 74 5F 70 72 65"
+    "76 69 65 77 31 07 66 64 5F 72 65 61 64 00 00 16 77 61 73 69 5F 73 6E 61 70 73 68 6F 74 5F 70 72 65 76 69 65 77 31 08 66 64 5F 77"
+    "72 69 74 65 00 00 03 02 01 01 05 03 01 00 02 06 08 01 7F 01 41 80 88 04 0B 07 13 02 06 6D 65 6D 6F 72 79 02 00 06 5F 73 74 61 72"
+    "74 00 02 0A 77 01 75 01 01 7F 23 80 80 80 80 00 41 10 6B 22 00 24 80 80 80 80 00 02 40 03 40 20 00 41 80 08 36 02 08 20 00 41 80"
+    "08 36 02 0C 41 00 20 00 41 08 6A 41 01 20 00 41 04 6A 10 80 80 80 80 00 0D 01 20 00 28 02 04 45 0D 01 20 00 20 00 28 02 04 36 02"
+    "0C 41 01 20 00 41 08 6A 41 01 20 00 41 04 6A 10 81 80 80 80 00 45 0D 00 0B 0B 20 00 41 10 6A 24 80 80 80 80 00 0B 00 10 04 6E 61"
+    "6D 65 01 09 01 02 06 5F 73 74 61 72 74"
+)
+# Fills its page with FF, for 180,224 units; and replies with 16 bytes that it has not written, for 13.
+PAGE_FILLER = one(body("03 40 20 00 41 7F 36 02 00 20 00 41 04 6A 22 00 41 80 80 04 49 0D 00 0B", "01 01 7F"), memories=["00 01"])
+ZERO_READER = text(
+    "00 61 73 6D 01 00 00 00 01 0C 02 60 04 7F 7F 7F 7F 01 7F 60 00 00 02 23 01 16 77 61 73 69 5F 73 6E 61 70 73 68 6F 74 5F 70 72 65"
+    "76 69 65 77 31 08 66 64 5F 77 72 69 74 65 00 00 03 02 01 01 05 03 01 00 01 07 0A 01 06 5F 73 74 61 72 74 00 01 0A 1E 01 1C 00 41"
+    "00 41 80 08 36 02 00 41 00 41 10 36 02 04 41 01 41 00 41 01 41 08 10 00 1A 0B"
+)
+# A start function before `_start`, both with a nop: they share a turn.
+TWO_ENTRIES = module(functions=["00", "00"], bodies=["01", "01 01"], exports=START, start="01")
+# Ends itself with a code behind a reply of three bytes; `proc_exit` costs 1, as all operators before it but the write, which costs 2.
+EXITS = calling(laid(0, [(1024, 3)]) + call(WRITE, 1, 0, 1, 8) + b"\x1a" + call(EXIT, 7))
+ENDS_WELL = calling(filled(3) + call(EXIT, 0))
+# One operator that costs 338, more than most quanta: 300 buffers and 2,400 bytes.
+DEAR = calling(laid(0, [(0, 8)] * 300) + call(WRITE, 1, 0, 300, 65532) + b"\x1a\x01")
+GROWS = one("41 01 40 00 1A 41 FC FF 07 41 05 36 02 00 41 FF 01 40 00 1A 3F 00 1A", memories=["00 01"])
+
+BODY = bytes(number * 7 % 256 for number in range(3000))
+REPLY = "replied " + BODY.hex()
+
+# a name, a module, a body, a budget, a quantum, and what becomes of the request, with units and turns
+ROWS = [
+    ("the endless loop", ENDLESS, b"", 5, 5, "spent", 5, 2),
+    ("the endless loop", ENDLESS, b"", 5, 2, "spent", 5, 3),
+    ("the endless loop", ENDLESS, b"", 5, 6, "spent", 5, 1),
+    ("the endless loop", ENDLESS, b"", 5, 1, "spent", 5, 6),
+    ("no budget", ENDLESS, b"", 0, 1, "spent", 0, 1),
+    ("no budget", ENDLESS, b"", 0, 5, "spent", 0, 1),
+    ("no budget", ENDLESS, b"", 0, GREATEST, "spent", 0, 1),
+    ("nothing", NOTHING, b"", 10, 1, "replied -", 0, 1),
+    ("nothing, without a budget", NOTHING, b"", 0, 1, "replied -", 0, 1),
+    ("a trap", UNREACHABLE, b"", 10, 1, "trap: unreachable", 1, 1),
+    ("a trap that is not paid", UNREACHABLE, b"", 0, 1, "spent", 0, 1),
+    ("three nops", NOPS, b"", 3, 3, "replied -", 3, 1),
+    ("three nops", NOPS, b"", 3, 2, "replied -", 3, 2),
+    ("three nops", NOPS, b"", 3, 1, "replied -", 3, 3),
+    ("a budget that is spent at a group's end", NOPS, b"", 2, 2, "spent", 2, 2),
+    ("a budget that is spent behind a group's end", NOPS, b"", 2, 1, "spent", 2, 3),
+    ("a trap at a group's end", BY_ZERO, b"", 10, 3, "trap: integer divide by zero", 3, 1),
+    ("a trap behind a group's end", BY_ZERO, b"", 10, 2, "trap: integer divide by zero", 3, 2),
+    ("a trap that is not paid, at a group's end", BY_ZERO, b"", 2, 2, "spent", 2, 2),
+    ("an exit at a group's end", EXITS, b"", 100, 15, "exit 7 000000", 15, 1),
+    ("an exit behind a group's end", EXITS, b"", 100, 14, "exit 7 000000", 15, 2),
+    ("an exit that is not paid", EXITS, b"", 14, 14, "spent", 14, 2),
+    ("an exit with 0", ENDS_WELL, b"", 100, 100, "exit 0 000000", 15, 1),
+    # The last call is paid and fills its group, and then entering traps for nothing in the same turn.
+    ("entering that traps", DEEP, b"", 10**6, 4096, "trap: call stack exhausted", 4096, 1),
+    ("entering that traps", DEEP, b"", 10**6, 4095, "trap: call stack exhausted", 4096, 2),
+    # 6 operators before the loop, 36 for each of three reads, 21 for the last one, and 4 behind it
+    ("the echo in turns of an operator", ECHO, BODY, 1000, 1, REPLY, 238, 139),
+    ("the echo", ECHO, BODY, 1000, 238, REPLY, 238, 1),
+    ("the echo", ECHO, BODY, 1000, 1000, REPLY, 238, 1),
+    ("the echo", ECHO, BODY, 1000, 237, REPLY, 238, 2),
+    ("the echo with as much as it costs", ECHO, BODY, 238, 237, REPLY, 238, 2),
+    ("the echo with too little", ECHO, BODY, 237, 237, "spent", 237, 2),
+    ("the page filler", PAGE_FILLER, b"", 200000, 1, "replied -", 180224, 180224),
+    ("the zero reader behind it", ZERO_READER, b"", 100, 1, "replied " + "00" * 16, 13, 12),
+    ("the page filler", PAGE_FILLER, b"", 200000, 2**32 - 1, "replied -", 180224, 1),
+    ("the zero reader behind it", ZERO_READER, b"", 100, 13, "replied " + "00" * 16, 13, 1),
+    ("the page filler, stopped", PAGE_FILLER, b"", 1000, 7, "spent", 1000, 143),
+    ("the zero reader behind it", ZERO_READER, b"", 100, 12, "replied " + "00" * 16, 13, 2),
+]
+
+# a name, a module, a body and budgets, for each quantum
+PROGRAMS = [
+    ("nothing", NOTHING, b"", [0, 10]),
+    ("a trap", BY_ZERO, b"", [2, 3, 10]),
+    ("the endless loop", ENDLESS, b"", [0, 6, 100, 1001]),
+    ("blocks", BLOCKS, b"", [3, 11, 100]),
+    ("a deep recursion", DEEP, b"", [200, 5000]),
+    ("4,096 frames", CALLS, b"", [30000]),
+    ("the echo", ECHO, BODY, [1000]),
+    ("the echo of little", ECHO, b"hi", [70, 71, 72]),
+    ("two entries", TWO_ENTRIES, b"", [2, 3, 100]),
+    ("an exit", EXITS, b"", [13, 14, 15, 100]),
+    ("an exit with 0", ENDS_WELL, b"", [100]),
+    ("a dear call", DEAR, b"", [2141, 2142, 3000]),
+    ("growing", GROWS, b"", [100]),
+    ("the zero reader", ZERO_READER, b"", [12, 13, 100]),
+]
+GROWN, SEED = 16, 19
+
+
+def became(data, request_body, budget):
+    """What becomes of a request, as the table tells it, and its prices."""
+    decoded = module_validator.decode(data)
+    assert module_validator.violation(decoded) is None
+    assert interpreter.link_refusal(decoded, 256) is None
+    machine = interpreter.Machine(decoded, request_body, budget, 256)
+    try:
+        machine.whole()
+    except interpreter.Trap as trap:
+        return "trap: " + trap.args[0], machine.prices
+    except interpreter.Exit as code:
+        return "exit %d %s" % (code.args[0], machine.reply.hex() or "-"), machine.prices
+    except interpreter.Spent:
+        return "spent", machine.prices
+    return "replied " + (machine.reply.hex() or "-"), machine.prices
+
+
+def line_of(data, request_body, budget, quantum):
+    return "turns %s %s %d %d" % (data.hex(), request_body.hex() or "-", budget, quantum)
+
+
+def answer(told, prices, quantum):
+    return "%s, units %d, turns %d" % (told, sum(prices), interpreter.turns(prices, quantum))
+
+
+def rows():
+    for name, data, request_body, budget, quantum, told, units, turns in ROWS:
+        wanted = "%s, units %d, turns %d" % (told, units, turns)
+        found = answer(*became(data, request_body, budget), quantum)
+        assert wanted == found, (name, budget, quantum, wanted, found)
+        yield line_of(data, request_body, budget, quantum), wanted
+
+
+def grown():
+    rng = random.Random(SEED)
+    for _ in range(GROWN):
+        yield programs.grown(rng), b"", [rng.choice((7, 40, 300, 2000))]
+
+
+def in_turns():
+    for data, request_body, budgets in [row[1:] for row in PROGRAMS] + list(grown()):
+        for budget in budgets:
+            told, prices = became(data, request_body, budget)
+            for quantum in QUANTA:
+                yield line_of(data, request_body, budget, quantum), answer(told, prices, quantum)
+
+
+def refused():
+    yield line_of(NOTHING, b"", 10, 0), "no answer"
+    yield line_of(NOTHING[:-1], b"", 10, 1), "no answer"
+    yield "repeat %s 1 20" % NOTHING.hex(), "answered 20"
+
+
+def cases():
+    """The lines of the cases, each with what must be printed of it."""
+    for made in (rows(), in_turns(), refused(), fresh_states.cases()):
+        yield from made
+
+
+def main(words):
+    lines = list(cases())
+    texts = ["".join(line[side] + "\n" for line in lines) for side in (0, 1)]
+    if words in (["cases"], ["table"]):
+        sys.stdout.write(texts[words == ["table"]])
+        return 0
+    if len(words) == 2 and words[0] == "check":
+        for name, wanted in zip(("data/cases", "stdout"), texts):
+            with open("%s/%s" % (words[1], name), encoding="utf-8") as file:
+                if file.read() != wanted:
+                    print("turns: %s/%s differs" % (words[1], name), file=sys.stderr)
+                    return 1
+        print("turns: %d cases agree" % len(lines))
+        return 0
+    sys.stderr.write(__doc__)
+    return 2
+
+
+if __name__ == "__main__":
+    sys.exit(main(sys.argv[1:]))

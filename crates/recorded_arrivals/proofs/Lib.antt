@@ -1,0 +1,5 @@
+pub mod BytesLaws
+pub mod FrontsLaws
+pub mod FeedingLaws
+pub mod LimitLaws
+pub mod ConnectionItems

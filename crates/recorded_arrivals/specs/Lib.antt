@@ -1,0 +1,4 @@
+pub mod Arrivals
+pub mod Limits
+pub mod Feeding
+pub mod Seen

@@ -1,0 +1,6 @@
+pub mod TextLaws
+pub mod TallyLaws
+pub mod RouteLaws
+pub mod FateLaws
+pub mod ServedLaws
+pub mod ReplayLaws

@@ -1,0 +1,23 @@
+use Rattle.std.proofs.Common.{◌≡◌, ◌<◌, List, ℕ, Some, slice_get, sym, ap, ap₂, ◌∙◌, arith}
+use Rattle.std.specs.Arc.{arc_value}
+use Rattle.sandbox_states.specs.Views.{AdmittedView}
+use Rattle.serve_config.specs.Loaded.{programs_in}
+use Rattle.serve_config.specs.Routing.{all_routes}
+use Rattle.wasm_meaning.specs.HostCalls.{Streams}
+use Rattle.wasm_meaning.specs.Programs.{Program}
+use Rattle.recorded_runner.proofs.RouteLaws.{mapped_at, read_some, request_made, job_made}
+use Rattle.recorded_runner.proofs.running.job_of.Goals as goal
+
+pub returns-in-Ok-clone : goal.returns-in-Ok-clone
+returns-in-Ok-clone c =
+    let tenants = c.args.config.now.tenants in
+    let shared = c.args.programs.now in
+    let route = c.args.entry.route in
+    let budget = c.route_at.result.now.budget in
+    let indexed : slice_get (programs_in shared) route ≡ Some (arc_value c.index-programs-route.result) =
+    mapped_at arc_value shared route c.index-programs-route.result (read_some shared route c.index-programs-route.result (omega (arith, c.requires.known, c.requires.each)) c.index-programs-route.is) in
+    let same : arc_value c.in-Ok-clone.program ≡ arc_value c.index-programs-route.result = c.in-Ok-clone.ensures.cases in
+    let body : c.in-Ok.streams.body ≡ c.args.entry.body.items = ap (λ (s : Streams). s.body) c.in-Ok.ensures.streams in
+    job_made tenants (programs_in shared) route c.args.entry.body.items (arc_value c.index-programs-route.result) c.route_at.result.now indexed c.route_at.ensures.is
+    ∙ ap₂ (λ (p : Program) (bytes : List ℕ). Some (request_made p bytes budget)) (sym same) (sym body)
+    ∙ ap (λ (j : AdmittedView). Some j.request) (sym c.new-in-Ok-clone.ensures)

@@ -1,0 +1,9 @@
+pub mod Lookups
+pub mod Fates
+pub mod Replies
+pub mod ReplayText
+pub mod Summaries
+pub mod Serving
+pub mod Seen
+pub mod Joined
+pub mod Tallies

@@ -1,0 +1,63 @@
+-- What a call of `replay` owes and answers, in the words of the definitions.
+use Rattle.std.specs.Prelude.{◌≡◌, ◌<◌, ◌≤◌, ℕ, Bool, false, List, [], ◌∷◌, length, Some}
+use Rattle.std.specs.List.{AllByRecursion}
+use Rattle.recording_format.specs.declared.records.Event.{Event}
+use Rattle.recording_format.specs.declared.records.Event.TheVariants.{Begins, Arrives, Closes}
+use Rattle.recording_format.specs.declared.records.Record.{Record}
+use Rattle.http_front.specs.Reply.{reply_of}
+use Rattle.serve_config.specs.declared.tenants.Route.{Route}
+use Rattle.serve_config.specs.declared.tenants.Tenant.{Tenant}
+use Rattle.serve_config.specs.Routing.{all_routes}
+use Rattle.serve_config.specs.Configuration.{Configuration}
+use Rattle.wasm_meaning.specs.Programs.{Program}
+use Rattle.recorded_arrivals.specs.Limits.{has_too_many}
+use Rattle.wasm_meaning.specs.Requests.{Request, Verdict, verdict}
+use Rattle.wasm_meaning.specs.Requests.{units as units_of}
+use Rattle.recorded_runner.specs.Fates.{Fate, Refuses, Admits}
+use Rattle.recorded_runner.specs.Lookups.{of_member}
+use Rattle.recorded_runner.specs.Replies.{reported_verdict, request_at}
+use Rattle.recorded_runner.specs.ReplayText.{replay_text}
+use Rattle.recorded_runner.specs.Summaries.{summary_of, turns_in}
+use Rattle.recorded_runner.specs.declared.played.Played.{Played}
+
+-- the programs are those of these routes, in order, each with the pages of its route
+abbrev pub AreProgramsOf : List Route → List Program → Type 0
+AreProgramsOf [] [] = Unit {0}
+AreProgramsOf [] (p ∷ ps) = ⊥
+AreProgramsOf (r ∷ rs) [] = ⊥
+AreProgramsOf (r ∷ rs) (p ∷ ps) = (p.pages ≡ r.pages) × AreProgramsOf rs ps
+
+-- a connection that begins is that of one of so many tenants
+abbrev pub IsOwned : (tenants : ℕ) → Event → Type 0
+IsOwned tenants (Begins tenant) = tenant < tenants
+IsOwned tenants (Arrives piece) = Unit {0}
+IsOwned tenants Closes = Unit {0}
+
+-- each connection of these records is that of one of so many tenants
+abbrev pub AreOwned : (tenants : ℕ) → List Record → Type 0
+AreOwned tenants records = AllByRecursion (λ (r : Record). IsOwned tenants r.event) records
+
+-- the text and the summary of a recording that has not too many items
+pub record IsPlayed (config : Configuration) (programs : List Program) (records : List Record) (played : Played) : Type 0 where
+  pub few : has_too_many records ≡ false
+  pub text_is : played.text.items ≡ replay_text config programs records
+  pub summary_is : played.summary ≡ summary_of config programs records
+
+-- a request that can be served: its route is one of the tenants', and its body is not too long
+abbrev pub IsServable : List Tenant → Fate → Type 0
+IsServable tenants (Refuses refusal) = Unit {0}
+IsServable tenants (Admits route body) = (route < length (all_routes tenants)) × (length body ≤ 1048576)
+
+-- so many pages are enough for each route
+abbrev pub AreRoomy : (pages : ℕ) → List Route → Type 0
+AreRoomy pages routes = AllByRecursion (λ (r : Route). r.pages ≤ pages) routes
+
+-- the request that a body makes at a route has this reply, these turns and these units
+pub record IsServed (tenants : List Tenant) (programs : List Program) (quantum route : ℕ) (body : List ℕ) (head keep : Bool) (reply : List ℕ) (turns units : ℕ) : Type 0 where
+  pub request : Request
+  pub made : request_at tenants programs route body ≡ Some request
+  pub found : Verdict
+  pub is : verdict request ≡ Some found
+  pub reply_is : reply ≡ reply_of (reported_verdict found) (of_member (λ r. r.content_type) [] (all_routes tenants) route) head keep
+  pub turns_are : turns ≡ turns_in quantum request
+  pub units_are : units ≡ units_of request

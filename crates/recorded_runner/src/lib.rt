@@ -1,0 +1,22 @@
+//! Replays of recordings.
+//!
+//! `replay` takes a configuration with the programs of its routes, and a recording of what arrived on connections, and answers the text of all replies, connection by connection, with a summary of what they took.
+//! `specs/` has what is promised of it, over whole lists: which items arrive and in which order (`Arrivals`), what becomes of each (`Fates`), the reply to each (`Replies`), the text (`ReplayText`) and the summary (`Summaries`). Nothing of it depends on how many workers there are, in which order they take requests up, how many berths there are, or on when a function is stopped; the summary's turns alone depend on the quantum.
+//! It stands on `recording_format` for recordings, on `http_front` for streams and replies, on `serve_config` for routes, on `admission` for meters, and on `sandbox_states` for runs.
+#![tactic(auto)]
+
+mod answering;
+mod deciding;
+pub mod laws;
+mod meters;
+mod outcomes;
+mod played;
+mod replaying;
+mod replies;
+mod running;
+mod serving;
+
+pub use outcomes::outcome;
+pub use played::{Played, Summary};
+pub use recording_format::{Event, Piece, Record, Recording, RecordingFault, read_recording};
+pub use replaying::replay;

@@ -1,0 +1,10 @@
+pub mod Generation
+pub mod Fitting
+pub mod Accepted
+pub mod Loads
+pub mod Opened
+pub mod Arrivals
+pub mod Bodies
+pub mod Owned
+pub mod Paged
+pub mod Text

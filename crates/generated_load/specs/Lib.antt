@@ -1,0 +1,5 @@
+pub mod Configuration
+pub mod Generator
+pub mod Modules
+pub mod Requests
+pub mod Recording

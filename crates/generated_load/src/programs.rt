@@ -1,0 +1,108 @@
+//! The programs of the load.
+ghost use Rattle.std.specs.Prelude.{◌≡◌, [], Ok, IfOk, IsOk, OnOk};
+ghost use Rattle.std.specs.Arc.{arc_value};
+ghost use Rattle.wasm_ops.specs.WellFormed.{IsWellFormed};
+ghost use Rattle.wasm_meaning.specs.Programs.{link as link_due};
+ghost use Rattle.wasm_meaning.specs.Validity.{module_walk};
+ghost use Rattle.serve_config.specs.Routing.{all_routes};
+ghost use Rattle.serve_config.specs.Loading.{linked, validated, program_of as program_due, loaded};
+ghost use Rattle.serve_config.specs.Loaded.{programs_in};
+ghost use Rattle.generated_load.specs.Configuration.{soak_configuration};
+ghost use Rattle.generated_load.specs.Modules.{nil_module, trap_module, loop_module, echo_module, soak_files};
+
+use crate::modules::{ECHO, LOOP, NIL, TRAP};
+use std::alloc::{AllocError, Global};
+use std::sync::Arc;
+use wasm_instance::{LinkFault, Program, link};
+use wasm_ops::Module;
+use wasm_reader::{ReadFault, read_module};
+use wasm_validate::{Valid, ValidFault, validate};
+
+/// The program of bytes that are known to be one's.
+fn program_of(alloc: Global, bytes: &[u8], pages: u32) -> Result<Arc<Program>, AllocError>
+    requires { IsOk (program_due pages bytes.now) }
+    ensures { IfOk result (λ shared. program_due pages bytes.now ≡ Ok (arc_value shared)) }
+{
+    match read_module(alloc, bytes) {
+        Ok(parts) => of_module(alloc, parts, pages),
+        Err(ReadFault::Bytes(_)) => unreachable!(),
+        Err(ReadFault::NoMemory) => Err(AllocError),
+    }
+}
+
+/// The program of a module that was read.
+fn of_module(alloc: Global, parts: Module, pages: u32) -> Result<Arc<Program>, AllocError>
+    requires formed { IsWellFormed parts }
+    requires fit { IsOk (validated pages parts (module_walk parts)) }
+    ensures { IfOk result (λ shared. validated pages parts (module_walk parts) ≡ Ok (arc_value shared)) }
+{
+    match validate(alloc, parts) {
+        Ok(valid) => of_valid(alloc, valid, pages),
+        Err(ValidFault::Rule(_)) => unreachable!(),
+        Err(ValidFault::NoMemory) => Err(AllocError),
+    }
+}
+
+/// The program of a valid module.
+fn of_valid(alloc: Global, valid: Valid, pages: u32) -> Result<Arc<Program>, AllocError>
+    requires { IsOk (linked (link_due valid pages)) }
+    ensures { IfOk result (λ shared. linked (link_due valid pages) ≡ Ok (arc_value shared)) }
+{
+    match link(alloc, valid, pages) {
+        Ok(program) => Ok(Arc::new(alloc, program)?),
+        Err(LinkFault::Refused(_)) => unreachable!(),
+        Err(LinkFault::NoMemory) => Err(AllocError),
+    }
+}
+
+fn nil(alloc: Global) -> Result<Arc<Program>, AllocError>
+    ensures { IfOk result (λ shared. program_due 1 nil_module ≡ Ok (arc_value shared)) }
+{
+    program_of(alloc, &NIL, 1)
+}
+
+fn trap(alloc: Global) -> Result<Arc<Program>, AllocError>
+    ensures { IfOk result (λ shared. program_due 1 trap_module ≡ Ok (arc_value shared)) }
+{
+    program_of(alloc, &TRAP, 1)
+}
+
+fn endless(alloc: Global) -> Result<Arc<Program>, AllocError>
+    ensures { IfOk result (λ shared. program_due 1 loop_module ≡ Ok (arc_value shared)) }
+{
+    program_of(alloc, &LOOP, 1)
+}
+
+fn echo(alloc: Global) -> Result<Arc<Program>, AllocError>
+    ensures { IfOk result (λ shared. program_due 2 echo_module ≡ Ok (arc_value shared)) }
+{
+    program_of(alloc, &ECHO, 2)
+}
+
+/// Adds the programs of the load, in the order of its routes.
+fn add_all(alloc: Global, programs: &mut Vec<Arc<Program>>) -> Result<(), AllocError>
+    requires { programs.old.items ≡ [] }
+    ensures { OnOk result (loaded soak_files 0 (all_routes soak_configuration.tenants) ≡ Ok (programs_in programs.new.items)) }
+{
+    programs.push(nil(alloc)?)?;
+    programs.push(trap(alloc)?)?;
+    programs.push(endless(alloc)?)?;
+    programs.push(echo(alloc)?)?;
+    Ok(())
+}
+
+/// The programs of the load's configuration, in the order of its routes. Each is read from bytes that stand in the program, validated, and linked with its route's pages, as the modules of files are.
+///
+/// Only want of memory keeps them from being made.
+pub fn soak_programs(alloc: Global) -> Result<Vec<Arc<Program>>, AllocError>
+    ensures { IfOk result (λ shared. loaded soak_files 0 (all_routes soak_configuration.tenants) ≡ Ok (programs_in shared.items)) }
+{
+    let mut programs = Vec::new(alloc);
+    match add_all(alloc, &mut programs) {
+        Ok(()) => Ok(programs),
+        Err(fault) => {
+            drop(programs);
+            Err(fault)
+        }
+    }
+}

@@ -12,9 +12,9 @@ names_from name [] = []
 names_from name (byte ∷ bytes) = if byte == 10 then name ∷ names_from [] bytes else names_from (name ++ byte ∷ []) bytes
 
 -- a part is refused by its number where it has no bytes
-abbrev check_part : (number : ℕ) → List ℕ → Step (List ℕ)
-check_part number [] = Stops (module_fault number 1 0)
-check_part number (byte ∷ bytes) = Goes (byte ∷ bytes)
+abbrev check_part : (number : ℕ) → (name bytes : List ℕ) → Step (List ℕ)
+check_part number name [] = Stops (module_fault number 1 0)
+check_part number name (byte ∷ bytes) = Goes (byte ∷ bytes)
 
 abbrev joined : List (List ℕ) → List ℕ
 joined [] = []
@@ -24,7 +24,7 @@ joined (part ∷ parts) = part ++ joined parts
 abbrev list_plan : Plan
 list_plan =
     checked_file (codes "list") 100 (λ bytes. Goes (names_from [] bytes))
-    (λ names. checked_files 0 names 10 check_part (λ parts. Ends (Done (joined parts) [])))
+    (λ names. checked_files (λ name. name) 10 check_part 0 names (λ parts. Ends (Done (joined parts) [])))
 
 -- the files `list`, `a` and `b`
 abbrev three : (list a b : Option (List ℕ)) → Files

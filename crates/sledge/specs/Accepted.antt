@@ -8,16 +8,16 @@ use Rattle.wasm_meaning.specs.Programs.{Program, link}
 use Rattle.wasm_meaning.specs.Validity.{module_walk}
 use Rattle.wasm_reader.specs.Modules.{SpellsModule}
 
--- the pages that a program is given: 16 MiB
+-- the pages that the program of an `invoke` is given: 16 MiB
 abbrev pub given_pages : ℕ
 given_pages = 256
 
--- the bytes spell a module that is valid and linked, and this is its program
-pub record IsAccepted (bytes : List ℕ) (program : Program) : Type 0 where
+-- the bytes spell a module that is valid and linked with so many pages, and this is its program
+pub record IsAccepted (pages : ℕ) (bytes : List ℕ) (program : Program) : Type 0 where
   pub parts : Module
   pub spelt : SpellsModule bytes parts
   pub valid : module_walk parts ≡ Ok tt
-  pub links : link parts given_pages ≡ Ok program
+  pub links : link parts pages ≡ Ok program
 
 -- the bytes spell a module that breaks a rule, and this is the first
 pub record IsInvalid (bytes : List ℕ) (broken : Broken) : Type 0 where
@@ -26,8 +26,8 @@ pub record IsInvalid (bytes : List ℕ) (broken : Broken) : Type 0 where
   pub broken_first : module_walk parts ≡ Err broken
 
 -- the bytes spell a valid module that is not linked, and this is what refuses it first
-pub record IsUnlinked (bytes : List ℕ) (why : Unlinked) : Type 0 where
+pub record IsUnlinked (pages : ℕ) (bytes : List ℕ) (why : Unlinked) : Type 0 where
   pub parts : Module
   pub spelt : SpellsModule bytes parts
   pub valid : module_walk parts ≡ Ok tt
-  pub refused_first : link_refusal parts given_pages ≡ Some why
+  pub refused_first : link_refusal parts pages ≡ Some why

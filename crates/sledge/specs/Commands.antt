@@ -1,40 +1,22 @@
 -- The plan of each command: its words first, then each file read and checked in its order, then the run.
-use Rattle.std.specs.Prelude.{ℕ, List, Option, None, Some, Result, Ok, Err}
+use Rattle.std.specs.Prelude.{ℕ, List, Option, None, Some}
 use Rattle.outside.specs.Library.{Files}
-use Rattle.wasm_ops.specs.declared.modules.Module.{Module}
-use Rattle.wasm_code.specs.Bodies.{beginning}
-use Rattle.wasm_code.specs.Reading.{Read}
-use Rattle.wasm_meaning.specs.LinkRules.{link_number}
-use Rattle.wasm_meaning.specs.Programs.{Program, link}
+use Rattle.wasm_meaning.specs.Programs.{Program}
 use Rattle.wasm_meaning.specs.Requests.{Request, Verdict, BudgetSpent, units, verdict}
-use Rattle.wasm_meaning.specs.Validity.{module_walk}
-use Rattle.wasm_meaning.specs.ValidityChecks.{Check}
-use Rattle.wasm_meaning.specs.declared.links.Unlinked.{Unlinked}
-use Rattle.wasm_reader.specs.Modules.{most_bytes, whole_module}
+use Rattle.wasm_reader.specs.Modules.{most_bytes}
 use Rattle.sledge.specs.Accepted.{given_pages}
-use Rattle.sledge.specs.CommandLine.{Asked, AsksHelp, AsksVersion, AsksInvoke, InvokeWords, command_of}
-use Rattle.sledge.specs.Endings.{Ended, answered, module_fault, recording_fault, shown, usage}
+use Rattle.sledge.specs.CheckPlans.{check_plan}
+use Rattle.sledge.specs.CommandLine.{Asked, AsksHelp, AsksVersion, AsksInvoke, AsksCheck, AsksReplay, AsksSoak, InvokeWords, command_of}
+use Rattle.sledge.specs.Endings.{Ended, answered, recording_fault, shown, usage}
+use Rattle.sledge.specs.ModuleChecks.{check_module}
 use Rattle.sledge.specs.Plans.{Plan, Ends, Step, Stops, Goes, checked_file, limited, over}
+use Rattle.sledge.specs.ReplayPlans.{replay_plan}
+use Rattle.sledge.specs.SoakPlans.{soak_plan}
 use Rattle.sledge.specs.Texts.{help_text, version_text}
 
--- a valid module that is linked, or what refuses it first
-abbrev pub linked : Result Program Unlinked → Step Program
-linked (Ok program) = Goes program
-linked (Err why) = Stops (module_fault 0 (link_number why.rule) why.item)
-
--- a module that is valid, or breaks a rule first
-abbrev pub validated : Check → Module → Step Program
-validated (Ok passed) parts = linked (link parts given_pages)
-validated (Err broken) parts = Stops (module_fault 0 broken.number broken.item)
-
--- what was read is a module, or has a fault
-abbrev pub module_step : Read Module → Step Program
-module_step (Ok read) = validated (module_walk read.0) read.0
-module_step (Err fault) = Stops (module_fault 0 fault.number fault.place)
-
--- a file as a program: it has at most 4 MiB, and spells a module that is valid and linked
-unfoldable pub check_module : List ℕ → Step Program
-check_module bytes = limited most_bytes (module_fault 0 21 0) (λ all. module_step (whole_module.read (beginning all))) bytes
+-- the module of an `invoke`, which is told as that of route 0
+abbrev pub check_invoked : List ℕ → Step Program
+check_invoked bytes = check_module 0 given_pages bytes
 
 -- the most bytes of a request body: 1 MiB
 abbrev pub body_limit : ℕ
@@ -68,7 +50,7 @@ body_end program budget (Goes body) = ran (request_of program budget body)
 
 -- `invoke`: the module, then the body, then the run
 abbrev pub invoke_plan : InvokeWords → Plan
-invoke_plan words = checked_file words.module_name most_bytes check_module (body_plan words)
+invoke_plan words = checked_file words.module_name most_bytes check_invoked (body_plan words)
 
 -- the plan of each command
 abbrev pub plan_of : Option Asked → Plan
@@ -76,6 +58,9 @@ plan_of None = Ends usage
 plan_of (Some AsksHelp) = Ends (shown help_text)
 plan_of (Some AsksVersion) = Ends (shown version_text)
 plan_of (Some (AsksInvoke words)) = invoke_plan words
+plan_of (Some (AsksCheck name)) = check_plan name
+plan_of (Some (AsksReplay words)) = replay_plan words
+plan_of (Some (AsksSoak words)) = soak_plan words
 
 -- the plan of these words
 abbrev pub plan_for : (words : List (List ℕ)) → Plan

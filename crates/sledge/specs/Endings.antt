@@ -44,6 +44,10 @@ usage = Refuses status.Usage (codes "usage")
 abbrev pub not_read : (name : List ℕ) → Ended
 not_read name = Refuses status.ReadFault (codes "read " ++ name)
 
+-- the configuration is refused
+abbrev pub config_fault : (number : ℕ) → Ended
+config_fault number = Refuses (status.ConfigFault number) (codes "config " ++ decimal number)
+
 -- the module of this route is refused
 abbrev pub module_fault : (route number place : ℕ) → Ended
 module_fault route number place =

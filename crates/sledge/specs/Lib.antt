@@ -1,9 +1,16 @@
 pub mod Accepted
+pub mod CheckPlans
 pub mod CommandLine
 pub mod Commands
 pub mod Delivery
 pub mod Endings
+pub mod ModuleChecks
 pub mod Plans
 pub mod Promises
+pub mod Readying
+pub mod Recordings
+pub mod ReplayPlans
+pub mod Replays
+pub mod SoakPlans
 pub mod Statuses
 pub mod Texts

@@ -38,12 +38,13 @@ checked_file name most check next = Reads name most (found name check next)
 abbrev pub limited : {A : Type 0} → (most : ℕ) → (too_long : Ended) → (check : List ℕ → Step A) → List ℕ → Step A
 limited most too_long check bytes = if nat_lt most (length bytes) then Stops too_long else check bytes
 
--- these files are read, each is checked by its number before the next one is read, and then; their names may stand in a file that was read before
+-- the files of these items are read, each is checked by its number before the next one is read, and then; the items may stand in a file that was read before
 abbrev pub checked_files
-    : {A : Type 0} → (number : ℕ) (names : List (List ℕ)) (most : ℕ) → (check : ℕ → List ℕ → Step A) → (next : List A → Plan) → Plan
-checked_files number [] most check next = next []
-checked_files number (name ∷ names) most check next =
-    checked_file name most (check number) (λ value. checked_files (suc number) names most check (λ values. next (value ∷ values)))
+    : {I A : Type 0} → (name_of : I → List ℕ) (most : ℕ) → (check : ℕ → I → List ℕ → Step A) → (number : ℕ) (items : List I) → (next : List A → Plan) → Plan
+checked_files name_of most check number [] next = next []
+checked_files name_of most check number (item ∷ items) next =
+    checked_file (name_of item) most (check number item)
+    (λ value. checked_files name_of most check (suc number) items (λ values. next (value ∷ values)))
 
 -- A plan that is carried out by reads.
 
@@ -61,3 +62,7 @@ pub record Comes {L : Type 0} (gave : L → L → List ℕ → ℕ → Fetched �
   pub ending : Ended
   pub walk : Walks gave plan old new ending
   pub is_due : planned ≡ due ending
+
+-- Reads with which a plan begins: whatever ends the plan that is left, ends the whole.
+pub record Leads {L : Type 0} (gave : L → L → List ℕ → ℕ → Fetched → Type 0) (plan left : Plan) (old between : L) : Type 0 where
+  pub leads : (new : L) (e : Ended) → Walks gave left between new e → Walks gave plan old new e

@@ -1,14 +1,18 @@
 //! How a command ends: its status, the text for the output and the line for the notes.
 
-ghost use Rattle.std.specs.Prelude.{◌≡◌, IfOk};
-ghost use Rattle.sledge.specs.Endings.{answered, due, module_fault, not_read, recording_fault, reported_verdict, shown, usage};
+ghost use Rattle.std.specs.Prelude.{◌≡◌, IfOk, string_bytes};
+ghost use Rattle.sledge.specs.Endings.{Done, answered, config_fault, due, module_fault, not_read, recording_fault, reported_verdict, shown, usage};
+ghost use Rattle.sledge.specs.CheckPlans.{counted, counts_line};
+ghost use Rattle.sledge.specs.ReplayPlans.{summary_counts, summary_line};
 ghost use Rattle.sandbox_states.specs.Views.{told};
 ghost use Rattle.http_front.specs.Reported.{IsOutcome, reported};
 
 use crate::status::Status;
 use crate::texts::OCTET_STREAM;
 use http_front::{Outcome, reply_text};
+use recorded_runner::{Played, Summary};
 use sandbox_states::{Answer, Verdict};
+use serve_config::Config;
 use std::alloc::{AllocError, Global};
 use std::marker::Model;
 
@@ -77,6 +81,17 @@ impl Ending {
         })
     }
 
+    /// The configuration is refused.
+    pub fn config_fault(alloc: Global, number: u8) -> Result<Ending, AllocError>
+        ensures { IfOk result (λ e. e ≡ due (config_fault number)) }
+    {
+        Ok(Ending {
+            status: Status::ConfigFault(number),
+            text: Vec::new(alloc),
+            note: format!(in alloc; "config {number}\n")?,
+        })
+    }
+
     /// The module of a route is refused.
     pub fn module_fault(
         alloc: Global,
@@ -119,6 +134,34 @@ impl Ending {
         })
     }
 
+    /// A configuration and its modules are accepted: how many tenants and routes it has.
+    pub fn counted(alloc: Global, config: &Config) -> Result<Ending, AllocError>
+        ensures { IfOk result (λ e. e ≡ due (counted config.now)) }
+    {
+        let line = counts_line(alloc, config.tenants().len(), config.route_count())?;
+        Ending::shown(alloc, line.as_str())
+    }
+
+    /// A recording was replayed: the text of the replies, and the line of the summary.
+    pub fn replayed(alloc: Global, played: Played) -> Result<Ending, AllocError>
+        ensures { IfOk result (λ e. e ≡ due (Done played.text.items (summary_line played.summary))) }
+    {
+        let Played { text, summary } = played;
+        Ok(Ending {
+            status: Status::Ok,
+            text,
+            note: summary_line(alloc, summary)?,
+        })
+    }
+
+    /// A load was replayed: the line of the summary, as a text.
+    pub fn summed(alloc: Global, summary: Summary) -> Result<Ending, AllocError>
+        ensures { IfOk result (λ e. e ≡ due (shown (summary_line summary))) }
+    {
+        let line = summary_line(alloc, summary)?;
+        Ending::shown(alloc, line.as_str())
+    }
+
     /// The program ran: the reply to a kept GET, and what the run cost.
     pub fn answered(alloc: Global, answer: &Answer) -> Result<Ending, AllocError>
         ensures { IfOk result (λ e. e ≡ due (answered answer.now.verdict answer.now.units)) }
@@ -136,6 +179,33 @@ impl Ending {
             note: format!(in alloc; "units {units}\n")?,
         })
     }
+}
+
+/// The line that tells how many tenants and routes there are.
+fn counts_line(alloc: Global, tenants: usize, routes: u32) -> Result<String, AllocError>
+    ensures { IfOk result (λ line. string_bytes line ≡ counts_line tenants routes) }
+{
+    let line = format!(in alloc; "tenants {tenants} routes {routes}\n")?;
+    Ok(line)
+}
+
+/// The line of a summary.
+fn summary_line(alloc: Global, summary: Summary) -> Result<String, AllocError>
+    ensures { IfOk result (λ line. string_bytes line ≡ summary_line summary) }
+{
+    let counts = summary_counts(alloc, summary)?;
+    let (turns, units) = (summary.turns, summary.units);
+    let line = format!(in alloc; "{counts} turns {turns} units {units}\n")?;
+    Ok(line)
+}
+
+/// Its first words: how many items there were, and what became of them.
+fn summary_counts(alloc: Global, summary: Summary) -> Result<String, AllocError>
+    ensures { IfOk result (λ words. string_bytes words ≡ summary_counts summary) }
+{
+    let (requests, admitted, started) = (summary.requests, summary.admitted, summary.started);
+    let words = format!(in alloc; "requests {requests} admitted {admitted} started {started}")?;
+    Ok(words)
 }
 
 /// What the reply reports of a verdict. A program that ends itself with code 0 has replied.

@@ -12,8 +12,8 @@ use std::sync::Arc;
 use wasi_calls::Streams;
 use wasm_instance::Program;
 
-/// More units than any request costs, so that it is over in one turn.
-const WHOLE: u64 = 1 << 41;
+/// The quantum of its turns: the greatest that a configuration can have.
+const QUANTUM: u64 = (1 << 32) - 1;
 
 /// Runs the program once on the body within the budget.
 pub fn execute(
@@ -37,14 +37,18 @@ pub fn execute(
 }
 
 /// The answer to a request that has begun.
-fn to_its_end(sandbox: Sandbox) -> Answer
-    ensures { (request : Request) → StandsFor request sandbox → AnswersFor request result.verdict result.units }
+fn to_its_end(begun: Sandbox) -> Answer
+    ensures { (request : Request) → StandsFor request begun → AnswersFor request result.verdict result.units }
 {
-    match run_turn(sandbox, WHOLE) {
-        Turn::Done(finished) => settle(finished).0,
-        Turn::Suspended(stopped) => {
-            let _units = stopped.units();
-            unreachable!()
+    let mut sandbox = begun;
+    loop {
+        match run_turn(sandbox, QUANTUM) {
+            Turn::Suspended(stopped) => sandbox = stopped,
+            Turn::Done(finished) => {
+                let (answer, berth) = settle(finished);
+                drop(berth);
+                return answer;
+            }
         }
     }
 }

@@ -10,7 +10,7 @@ ghost use Rattle.wasm_meaning.specs.Requests.{Request, Verdict, verdict};
 ghost use Rattle.wasm_meaning.specs.declared.links.Unlinked.{Unlinked};
 ghost use Rattle.wasm_meaning.specs.declared.violations.Broken.{Broken};
 ghost use Rattle.wasm_reader.specs.Modules.{RefusesModule};
-ghost use Rattle.sledge.specs.Accepted.{IsAccepted, IsInvalid, IsUnlinked};
+ghost use Rattle.sledge.specs.Accepted.{IsAccepted, IsInvalid, IsUnlinked, given_pages};
 ghost use Rattle.sledge.specs.CommandLine.{AsksHelp, AsksInvoke, AsksVersion, InvokeWords, command_of};
 ghost use Rattle.sledge.specs.Commands.{body_limit, ending};
 ghost use Rattle.sledge.specs.Endings.{module_fault, not_read, recording_fault, shown, status_of, usage};
@@ -49,21 +49,21 @@ pub fn invoke_endings()
     ensures module_unlinked { (words : List (List ℕ)) (files : Files)
         (i : InvokeWords) (file : List ℕ) (why : Unlinked)
         → command_of words ≡ Some (AsksInvoke i) → files i.module_name ≡ Some file
-        → IsUnlinked file why
+        → IsUnlinked given_pages file why
         → ending words files ≡ module_fault 0 (link_number why.rule) why.item }
 
     // It spells one that is valid and linked, and the body's file is missing, or too long, or neither.
     ensures body_missing { (words : List (List ℕ)) (files : Files)
         (i : InvokeWords) (file : List ℕ) (program : Program)
         → command_of words ≡ Some (AsksInvoke i) → files i.module_name ≡ Some file
-        → IsAccepted file program → files i.body_name ≡ None → ending words files ≡ not_read i.body_name }
+        → IsAccepted given_pages file program → files i.body_name ≡ None → ending words files ≡ not_read i.body_name }
     ensures body_too_long { (words : List (List ℕ)) (files : Files)
         (i : InvokeWords) (file body : List ℕ) (program : Program)
-        → command_of words ≡ Some (AsksInvoke i) → HoldsBoth i files file body → IsAccepted file program
+        → command_of words ≡ Some (AsksInvoke i) → HoldsBoth i files file body → IsAccepted given_pages file program
         → body_limit < length body → ending words files ≡ recording_fault 76 }
     ensures complete { (words : List (List ℕ)) (files : Files)
         (i : InvokeWords) (file body : List ℕ) (program : Program)
-        → command_of words ≡ Some (AsksInvoke i) → HoldsBoth i files file body → IsAccepted file program
+        → command_of words ≡ Some (AsksInvoke i) → HoldsBoth i files file body → IsAccepted given_pages file program
         → length body ≤ body_limit → AnswersInvoke i files (ending words files) }
 
     // And where it ends with status 0, it is answered by the verdict.
@@ -72,9 +72,11 @@ pub fn invoke_endings()
         → AnswersInvoke i files (ending words files) }
 {}
 
-/// A request to the program of a file that is accepted has a verdict, whatever its body and budget.
+/// A request to the program of a file that is accepted has a verdict, whatever its body and budget,
+/// and the pages that it is linked with.
 pub fn requests_have_verdicts()
-    ensures { (file : List ℕ) (program : Program) → AreBytes file → IsAccepted file program
+    ensures { (pages : ℕ) (file : List ℕ) (program : Program)
+        → AreBytes file → IsAccepted pages file program
         → (request : Request) → request.program ≡ program
         → (v : Verdict) × (verdict request ≡ Some v) }
 {}

@@ -1,12 +1,18 @@
 //! The program: the top calls, and `main`, which hands them the real outside.
 #![tactic(auto)]
 
+pub mod check_laws;
+mod checking;
 mod command;
 mod delivery;
 mod ending;
 mod execution;
 pub mod laws;
 mod planning;
+pub mod replay_laws;
+mod replaying;
+pub mod soak_laws;
+mod soaking;
 mod status;
 #[cfg(test)]
 mod tests;

@@ -6,16 +6,21 @@ ghost use Rattle.wasm_meaning.specs.Validity.{module_walk};
 ghost use Rattle.wasm_ops.specs.WellFormed.{IsWellFormed};
 ghost use Rattle.sledge.specs.Accepted.{given_pages};
 ghost use Rattle.sledge.specs.CommandLine.{invoke_view};
-ghost use Rattle.sledge.specs.Commands.{body_end, body_plan, check_body, check_module, invoke_plan, linked, plan_for, validated};
+ghost use Rattle.sledge.specs.Commands.{body_end, body_plan, check_body, check_invoked, invoke_plan, plan_for};
 ghost use Rattle.sledge.specs.Endings.{due};
+ghost use Rattle.sledge.specs.ModuleChecks.{linked, validated};
 ghost use Rattle.sledge.specs.Plans.{Comes, go_on};
 
+use crate::checking::check;
 use crate::command::{Command, Invoke};
 use crate::ending::Ending;
 use crate::execution::execute;
+use crate::replaying::replay_files;
+use crate::soaking::soak;
 use crate::texts::{HELP, VERSION};
-use outside::{Fetch, Library};
+use outside::{Fetch, Gate, Library};
 use std::alloc::{AllocError, Global};
+use std::thread::Threads;
 use wasm_instance::{LinkFault, Program, link};
 use wasm_ops::Module;
 use wasm_reader::{MOST_BYTES, ReadFault, read_module};
@@ -32,7 +37,13 @@ const TOO_LONG: u8 = 76;
 
 /// The ending of a command line, by its plan and the reads that are made here. Nothing is written
 /// yet.
-pub fn plan<L: Library>(alloc: Global, words: &[String], lib: &mut L) -> Result<Ending, AllocError>
+pub fn plan<R: Threads + Sync, L: Library, G: Gate>(
+    rt: &R,
+    alloc: Global,
+    words: &[String],
+    lib: &mut L,
+    gate: &G,
+) -> Result<Ending, AllocError>
     ensures comes { IfOk result
         (Comes L.gave (plan_for (map string_bytes words.now)) lib.old lib.new) }
     ensures same { (L.state lib.new).held ≡ (L.state lib.old).held }
@@ -43,6 +54,9 @@ pub fn plan<L: Library>(alloc: Global, words: &[String], lib: &mut L) -> Result<
         Some(Command::Help) => Ending::shown(alloc, HELP),
         Some(Command::Version) => Ending::shown(alloc, VERSION),
         Some(Command::Invoke(invoke)) => from_module(alloc, invoke, lib),
+        Some(Command::Check(name)) => check(alloc, name, lib),
+        Some(Command::Soak(words)) => soak(rt, alloc, words, gate),
+        Some(Command::Replay(words)) => replay_files(rt, alloc, words, lib, gate),
     }
 }
 
@@ -76,7 +90,7 @@ fn from_bytes<L: Library>(
 ) -> Result<Ending, AllocError>
     requires budget { invoke.budget ≤ 2 ^ 40 }
     ensures comes { IfOk result (Comes L.gave
-        (go_on (body_plan (invoke_view invoke.entry)) (check_module bytes.now)) lib.old lib.new) }
+        (go_on (body_plan (invoke_view invoke.entry)) (check_invoked bytes.now)) lib.old lib.new) }
     ensures same { (L.state lib.new).held ≡ (L.state lib.old).held }
     ensures later { (L.state lib.old).faults ≤ (L.state lib.new).faults }
 {
@@ -97,7 +111,7 @@ fn from_parts<L: Library>(
     requires budget { invoke.budget ≤ 2 ^ 40 }
     requires formed { IsWellFormed parts }
     ensures comes { IfOk result (Comes L.gave (go_on (body_plan (invoke_view invoke.entry))
-        (validated (module_walk parts) parts)) lib.old lib.new) }
+        (validated 0 given_pages (module_walk parts) parts)) lib.old lib.new) }
     ensures same { (L.state lib.new).held ≡ (L.state lib.old).held }
     ensures later { (L.state lib.old).faults ≤ (L.state lib.new).faults }
 {
@@ -119,7 +133,7 @@ fn from_valid<L: Library>(
 ) -> Result<Ending, AllocError>
     requires budget { invoke.budget ≤ 2 ^ 40 }
     ensures comes { IfOk result (Comes L.gave (go_on (body_plan (invoke_view invoke.entry))
-        (linked (link_due valid given_pages))) lib.old lib.new) }
+        (linked 0 (link_due valid given_pages))) lib.old lib.new) }
     ensures same { (L.state lib.new).held ≡ (L.state lib.old).held }
     ensures later { (L.state lib.old).faults ≤ (L.state lib.new).faults }
 {
@@ -148,9 +162,18 @@ fn from_body<L: Library>(
 {
     match lib.read(alloc, invoke.body_name, BODY_LIMIT) {
         Ok(body) => from_run(alloc, program, body, invoke.budget),
-        Err(Fetch::Missing) => Ending::not_read(alloc, invoke.body_name),
-        Err(Fetch::Failed) => Ending::not_read(alloc, invoke.body_name),
-        Err(Fetch::NoMemory) => Err(AllocError),
+        Err(Fetch::Missing) => {
+            drop(program);
+            Ending::not_read(alloc, invoke.body_name)
+        }
+        Err(Fetch::Failed) => {
+            drop(program);
+            Ending::not_read(alloc, invoke.body_name)
+        }
+        Err(Fetch::NoMemory) => {
+            drop(program);
+            Err(AllocError)
+        }
     }
 }
 
@@ -166,8 +189,11 @@ fn from_run(
     ensures { IfOk result (λ e. e ≡ due (body_end program budget (check_body body.items))) }
 {
     if body.len() as u64 > BODY_LIMIT {
+        drop(program);
         return Ending::recording_fault(alloc, TOO_LONG);
     }
     let answer = execute(alloc, program, body, budget)?;
-    Ending::answered(alloc, &answer)
+    let ending = Ending::answered(alloc, &answer);
+    drop(answer);
+    ending
 }

@@ -1,6 +1,6 @@
 //! Whole commands over files and outputs in memory: what calls that fail leave, and in which
-//! pieces a text is written. Words, modules and bodies are tried on the built program
-//! (`tests/invoke.py`).
+//! pieces a text is written. Words, modules, bodies and configurations are tried on the built program
+//! (`tests/invoke.py`, `tests/check.py`).
 
 use crate::delivery::deliver;
 use crate::status::Status;
@@ -23,308 +23,278 @@ const OK: &str =
 /// The note of its run.
 const NO_UNITS: &str = "units 0\n";
 
+/// A configuration of two routes, whose modules are in the files `e` and `m`.
+const CONFIG: &[u8] =
+    b"{\"workers\":1,\"quantum\":1,\"policy\":\"rr\",\"berths\":1,\"tenants\":[{\"name\":\"a\",\"port\":1,\"capacity\":0,\"rate\":0,\"routes\":[{\"path\":\"/e\",\"module\":\"e\",\"budget\":0,\"pages\":1,\"estimate\":0,\"deadline\":0},{\"path\":\"/m\",\"module\":\"m\",\"budget\":0,\"pages\":1,\"estimate\":0,\"deadline\":0}]}]}";
+
+/// A recording of one request to the second route.
+const RECORDING: &[u8] =
+    b"SLR1\x01\0\0\0\0\0\0\0\0\0\0\0\0\x02\0\0\0\0\0\0\0\0\x1C\0\0\0GET /m HTTP/1.1\r\nHost: x\r\n\r\n\0";
+
+/// What is due for it: the replies are 78 bytes.
+const ANSWERS: &str =
+    "SLA1\0\0\0\0N\0\0\0HTTP/1.1 200 OK\r\nContent-Type: application/octet-stream\r\nContent-Length: 0\r\n\r\n";
+
+/// And its summary.
+const SUMMARY: &str = "requests 1 admitted 1 started 1 turns 1 units 0\n";
+
 /// A call that fails, by its number, and how many bytes it lets pass.
 type Fails = Option<(u64, u64)>;
 
-/// A library of two files and two outputs, all in memory.
-#[derive(Drop)]
-struct Outside {
-    lib: Shelf,
-    out: Page,
-    notes: Page,
+/// The files `c`, a configuration, `e` and `m`, modules, `r`, a recording, and `b`, which is empty,
+/// where this read fails.
+fn shelf(alloc: Global, failing: Option<u64>) -> Result<Shelf, AllocError> {
+    let mut files = Vec::new(alloc);
+    for (name, bytes) in [
+        ("c", CONFIG),
+        ("e", M0),
+        ("m", M0),
+        ("r", RECORDING),
+        ("b", b""),
+    ] {
+        let name = Text::new(String::from_str(alloc, name)?);
+        files.push((name, Vec::from_slice(alloc, bytes)?))?;
+    }
+    let mut numbers = Vec::new(alloc);
+    if let Some(number) = failing {
+        numbers.push(number)?;
+    }
+    Ok(Shelf::new(files, numbers))
 }
 
-impl Outside {
-    /// The files `m`, a module, and `b`, which is empty, where this read fails; an output of this
-    /// room, and notes of 4,096 bytes, where these writes fail.
-    fn new(
-        alloc: Global,
-        module: &[u8],
-        failing: Option<u64>,
-        room: u64,
-        out: Fails,
-        notes: Fails,
-    ) -> Result<Outside, AllocError> {
-        let mut files = Vec::new(alloc);
-        for (name, bytes) in [("m", module), ("b", b"")] {
-            let name = Text::new(String::from_str(alloc, name)?);
-            files.push((name, Vec::from_slice(alloc, bytes)?))?;
-        }
-        let mut numbers = Vec::new(alloc);
-        if let Some(number) = failing {
-            numbers.push(number)?;
-        }
-        Ok(Outside {
-            lib: Shelf::new(files, numbers),
-            out: page(alloc, room, out)?,
-            notes: page(alloc, 4096, notes)?,
-        })
-    }
-
-    fn run<R: Threads + Sync>(
-        &mut self,
-        rt: &R,
-        alloc: Global,
-        words: &[&str],
-    ) -> Result<Status, AllocError> {
-        let mut owned = Vec::new(alloc);
-        for word in words {
-            owned.push(String::from_str(alloc, word)?)?;
-        }
-        Ok(run(
-            rt,
-            alloc,
-            owned.as_slice(),
-            &mut self.lib,
-            &mut self.out,
-            &mut self.notes,
-            &OpenGate,
-        ))
-    }
-
-    /// Asserts what each output has taken, and the counts of faults of the library, the output and
-    /// the notes.
-    fn expect<R: Abort>(
-        &self,
-        rt: &R,
-        row: usize,
-        out: &str,
-        notes: &str,
-        faults: (u64, u64, u64),
-    ) {
-        assert_eq!(rt; self.out.bytes(), out.as_bytes(), "row {row}");
-        assert_eq!(rt; self.notes.bytes(), notes.as_bytes(), "row {row}");
-        let counts = (self.lib.faults(), self.out.faults(), self.notes.faults());
-        assert_eq!(rt; counts, faults, "row {row}");
-    }
-}
-
-/// An output of this room, of which this call fails.
-fn page(alloc: Global, room: u64, fails: Fails) -> Result<Page, AllocError> {
+/// An output of which this call fails.
+fn page(alloc: Global, fails: Fails) -> Result<Page, AllocError> {
     let mut cuts = Vec::new(alloc);
     if let Some((call, passes)) = fails {
         cuts.push(Cut { call, passes })?;
     }
-    Page::new(alloc, room, cuts)
+    Page::new(alloc, 200_000, cuts)
 }
 
-#[test]
-fn leaves_what_failing_calls_allow(rt: HostRuntime) -> Result<(), Fail> {
-    let refused = Status::ModuleFault {
-        route: 0,
-        number: 1,
-        place: 0,
+/// The words between blanks.
+fn words_of(alloc: Global, line: &str) -> Result<Vec<String>, AllocError> {
+    let mut words = Vec::new(alloc);
+    for word in line.split(' ') {
+        words.push(String::from_str(alloc, word)?)?;
+    }
+    Ok(words)
+}
+
+/// The calls that fail: of the library, the output and the notes.
+#[derive(Clone, Copy)]
+struct Failing {
+    read: Option<u64>,
+    out: Fails,
+    notes: Fails,
+}
+
+/// What a command leaves: its status, what the outputs took, and the counts of faults of the library,
+/// the output and the notes.
+#[derive(Clone, Copy)]
+struct Left<'a> {
+    status: Status,
+    out: &'a str,
+    notes: &'a str,
+    faults: (u64, u64, u64),
+}
+
+/// Asserts what the command of the words leaves over these files and outputs.
+fn leaves<R: Abort + Threads + Sync>(
+    rt: &R,
+    words: &[String],
+    lib: &mut Shelf,
+    out: &mut Page,
+    notes: &mut Page,
+    alloc: Global,
+    left: Left<'_>,
+) {
+    let status = run(rt, alloc, words, lib, out, notes, &OpenGate);
+    assert_eq!(rt; status, left.status);
+    assert_eq!(rt; out.bytes(), left.out.as_bytes());
+    assert_eq!(rt; notes.bytes(), left.notes.as_bytes());
+    assert_eq!(rt; (lib.faults(), out.faults(), notes.faults()), left.faults);
+}
+
+/// Asserts what the command of the words leaves where these calls fail.
+fn tries<R: Abort + Threads + Sync>(
+    rt: &R,
+    alloc: Global,
+    line: &str,
+    failing: Failing,
+    left: Left<'_>,
+) -> Result<(), AllocError> {
+    let mut out = page(alloc, failing.out)?;
+    let Ok(mut notes) = page(alloc, failing.notes) else {
+        drop(out);
+        return Err(AllocError);
     };
-    let failed = Status::WriteFault;
-    let table: [(
-        &[u8],
-        Option<u64>,
-        u64,
-        Fails,
-        Fails,
-        Status,
-        &str,
-        &str,
-        (u64, u64, u64),
-    ); 16] = [
-        (
-            M0,
-            None,
-            4096,
-            None,
-            None,
-            Status::Ok,
-            OK,
-            NO_UNITS,
-            (0, 0, 0),
-        ),
-        // A read that fails is named, and the second comes only behind an accepted module.
-        (
-            M0,
-            Some(0),
-            4096,
-            None,
-            None,
-            Status::ReadFault,
-            "",
-            "read m\n",
-            (1, 0, 0),
-        ),
-        (
-            M0,
-            Some(1),
-            4096,
-            None,
-            None,
-            Status::ReadFault,
-            "",
-            "read b\n",
-            (1, 0, 0),
-        ),
-        (
-            b"",
-            Some(1),
-            4096,
-            None,
-            None,
-            refused,
-            "",
-            "module 1 0 0\n",
-            (0, 0, 0),
-        ),
-        // An output that fails keeps a prefix, and the notes nothing.
-        (
-            M0,
-            None,
-            4096,
-            Some((0, 0)),
-            None,
-            failed,
-            "",
-            "",
-            (0, 1, 0),
-        ),
-        (
-            M0,
-            None,
-            4096,
-            Some((0, 1)),
-            None,
-            failed,
-            "H",
-            "",
-            (0, 1, 0),
-        ),
-        (
-            M0,
-            None,
-            4096,
-            Some((0, 77)),
-            None,
-            failed,
-            OK.get(..77).unwrap_or(""),
-            "",
-            (0, 1, 0),
-        ),
-        (
-            M0,
-            None,
-            77,
-            None,
-            None,
-            failed,
-            OK.get(..77).unwrap_or(""),
-            "",
-            (0, 1, 0),
-        ),
-        (M0, None, 0, None, None, failed, "", "", (0, 1, 0)),
-        // Notes that fail come after the text.
-        (
-            M0,
-            None,
-            4096,
-            None,
-            Some((0, 0)),
-            failed,
-            OK,
-            "",
-            (0, 0, 1),
-        ),
-        (
-            M0,
-            None,
-            4096,
-            None,
-            Some((0, 6)),
-            failed,
-            OK,
-            "units ",
-            (0, 0, 1),
-        ),
-        // A refusal does not ask the output, and notes that fail make a write fault of it.
-        (
-            b"",
-            None,
-            4096,
-            Some((0, 0)),
-            None,
-            refused,
-            "",
-            "module 1 0 0\n",
-            (0, 0, 0),
-        ),
-        (
-            b"",
-            None,
-            4096,
-            None,
-            Some((0, 0)),
-            failed,
-            "",
-            "",
-            (0, 0, 1),
-        ),
-        (
-            b"",
-            None,
-            4096,
-            None,
-            Some((0, 7)),
-            failed,
-            "",
-            "module ",
-            (0, 0, 1),
-        ),
-        // A text takes one call, and so does a note.
-        (
-            M0,
-            None,
-            4096,
-            Some((1, 0)),
-            Some((1, 0)),
-            Status::Ok,
-            OK,
-            NO_UNITS,
-            (0, 0, 0),
-        ),
-        (
-            M0,
-            Some(2),
-            4096,
-            None,
-            None,
-            Status::Ok,
-            OK,
-            NO_UNITS,
-            (0, 0, 0),
-        ),
-    ];
-    for (row, (module, failing, room, out, notes, status, text, note, faults)) in table
-        .into_iter()
-        .enumerate()
-    {
-        let mut outside = Outside::new(rt.alloc(), module, failing, room, out, notes)?;
-        let ended = outside.run(&rt, rt.alloc(), &["invoke", "m", "b", "10"])?;
-        assert_eq!(rt; ended, status, "row {row}");
-        outside.expect(&rt, row, text, note, faults);
+    let Ok(words) = words_of(alloc, line) else {
+        drop(out);
+        drop(notes);
+        return Err(AllocError);
+    };
+    let Ok(mut lib) = shelf(alloc, failing.read) else {
+        drop(out);
+        drop(notes);
+        drop(words);
+        return Err(AllocError);
+    };
+    leaves(
+        rt,
+        words.as_slice(),
+        &mut lib,
+        &mut out,
+        &mut notes,
+        alloc,
+        left,
+    );
+    drop(lib);
+    drop(out);
+    drop(notes);
+    drop(words);
+    Ok(())
+}
+
+const NOTHING_FAILS: Failing = Failing {
+    read: None,
+    out: None,
+    notes: None,
+};
+
+/// Tries the words, of a command that reads these files and leaves this text and this note, where
+/// each read and the write to the output fail in turn.
+fn fails_in_turn<R: Abort + Threads + Sync>(
+    rt: &R,
+    alloc: Global,
+    line: &str,
+    reads: &str,
+    text: &str,
+    note: &str,
+) -> Result<(), AllocError> {
+    let mut call = 0u64;
+    // A read that fails is named, and nothing else is said.
+    for name in reads.split(' ') {
+        let said = format!(in alloc; "read {name}\n")?;
+        let failing = Failing {
+            read: Some(call),
+            ..NOTHING_FAILS
+        };
+        let left = Left {
+            status: Status::ReadFault,
+            out: "",
+            notes: said.as_str(),
+            faults: (1, 0, 0),
+        };
+        tries(rt, alloc, line, failing, left)?;
+        call = call.saturating_add(1);
+    }
+    // No further read is made, and a text takes one call, as does a note.
+    let failing = Failing {
+        read: Some(call),
+        out: Some((1, 0)),
+        notes: Some((1, 0)),
+    };
+    let left = Left {
+        status: Status::Ok,
+        out: text,
+        notes: note,
+        faults: (0, 0, 0),
+    };
+    tries(rt, alloc, line, failing, left)?;
+    // An output that fails keeps a prefix, and the notes nothing.
+    for passes in [0, text.len().saturating_sub(1)] {
+        let failing = Failing {
+            out: Some((0, passes as u64)),
+            ..NOTHING_FAILS
+        };
+        let out = text.get(..passes).unwrap_or("");
+        let left = Left {
+            status: Status::WriteFault,
+            out,
+            notes: "",
+            faults: (0, 1, 0),
+        };
+        tries(rt, alloc, line, failing, left)?;
+    }
+    Ok(())
+}
+
+/// Tries the words, of a command that leaves this text and this note, where the notes fail.
+fn notes_fail<R: Abort + Threads + Sync>(
+    rt: &R,
+    alloc: Global,
+    line: &str,
+    text: &str,
+    note: &str,
+) -> Result<(), AllocError> {
+    for passes in [0, note.len().saturating_sub(1)] {
+        let failing = Failing {
+            notes: Some((0, passes as u64)),
+            ..NOTHING_FAILS
+        };
+        let notes = note.get(..passes).unwrap_or("");
+        let left = Left {
+            status: Status::WriteFault,
+            out: text,
+            notes,
+            faults: (0, 0, 1),
+        };
+        tries(rt, alloc, line, failing, left)?;
     }
     Ok(())
 }
 
 #[test]
+fn leaves_what_failing_calls_allow(rt: HostRuntime) -> Result<(), Fail> {
+    let alloc = rt.alloc();
+    fails_in_turn(&rt, alloc, "invoke m b 10", "m b", OK, NO_UNITS)?;
+    fails_in_turn(&rt, alloc, "check c", "c e m", "tenants 1 routes 2\n", "")?;
+    fails_in_turn(&rt, alloc, "replay c r", "c e m r", ANSWERS, SUMMARY)?;
+    // Notes that fail come after the text, and make a write fault of a refusal too.
+    notes_fail(&rt, alloc, "invoke m b 10", OK, NO_UNITS)?;
+    notes_fail(&rt, alloc, "check b", "", "config 60\n")?;
+    notes_fail(&rt, alloc, "replay c r", ANSWERS, SUMMARY)?;
+    // A refusal does not ask the output.
+    let failing = Failing {
+        out: Some((0, 0)),
+        ..NOTHING_FAILS
+    };
+    let status = Status::ModuleFault {
+        route: 0,
+        number: 1,
+        place: 0,
+    };
+    let left = Left {
+        status,
+        out: "",
+        notes: "module 1 0 0\n",
+        faults: (0, 0, 0),
+    };
+    tries(&rt, alloc, "invoke b b 10", failing, left)?;
+    Ok(())
+}
+
+#[test]
 fn shows_its_texts(rt: HostRuntime) -> Result<(), Fail> {
-    for (row, (word, text)) in [("--version", "Cavundel 0.1.0\n"), ("--help", HELP)]
-        .into_iter()
-        .enumerate()
-    {
-        let mut outside = Outside::new(rt.alloc(), b"", Some(0), 4096, None, None)?;
-        assert_eq!(rt; outside.run(&rt, rt.alloc(), &[word])?.code(), 0);
-        outside.expect(&rt, row, text, "", (0, 0, 0));
+    for (word, text) in [("--version", "Cavundel 0.1.0\n"), ("--help", HELP)] {
+        let failing = Failing {
+            read: Some(0),
+            ..NOTHING_FAILS
+        };
+        let left = Left {
+            status: Status::Ok,
+            out: text,
+            notes: "",
+            faults: (0, 0, 0),
+        };
+        tries(&rt, rt.alloc(), word, failing, left)?;
     }
-    let mut outside = Outside::new(rt.alloc(), b"", None, 4096, None, None)?;
-    let status = out_of_memory(&mut outside.out, &mut outside.notes);
+    let mut out = page(rt.alloc(), None)?;
+    let mut notes = page(rt.alloc(), None)?;
+    let status = out_of_memory(&mut out, &mut notes);
     assert_eq!(rt; status.code(), 8);
-    outside.expect(&rt, 2, "", "memory\n", (0, 0, 0));
+    assert_eq!(rt; out.bytes().len(), 0);
+    assert_eq!(rt; notes.bytes(), b"memory\n".as_slice());
     Ok(())
 }
 
@@ -338,8 +308,8 @@ fn hands_over_a_text_in_pieces(rt: HostRuntime) -> Result<(), Fail> {
     for (len, delivered, taken) in table {
         let text = vec![in rt.alloc(); 7u8; len]?;
         // The output's call 1 lets nothing pass.
-        let mut out = page(rt.alloc(), 200_000, Some((1, 0)))?;
-        let mut notes = page(rt.alloc(), 10, None)?;
+        let mut out = page(rt.alloc(), Some((1, 0)))?;
+        let mut notes = page(rt.alloc(), None)?;
         let result = deliver(text.as_slice(), b"note", &mut out, &mut notes);
         assert_eq!(rt; result, delivered, "{len} bytes");
         assert_eq!(rt;
@@ -350,8 +320,8 @@ fn hands_over_a_text_in_pieces(rt: HostRuntime) -> Result<(), Fail> {
         assert_eq!(rt; notes.bytes().is_empty(), delivered.is_err(), "{len} bytes");
     }
     // Nothing to write is no call.
-    let mut out = page(rt.alloc(), 10, Some((0, 0)))?;
-    let mut notes = page(rt.alloc(), 10, Some((0, 0)))?;
+    let mut out = page(rt.alloc(), Some((0, 0)))?;
+    let mut notes = page(rt.alloc(), Some((0, 0)))?;
     assert_eq!(rt; deliver(b"", b"", &mut out, &mut notes), Ok(()));
     Ok(())
 }

@@ -1,13 +1,14 @@
 //! The top call: a whole command, from its words to what is written.
 
-ghost use Rattle.std.specs.Prelude.{◌≡◌, ◌≢◌, ◌≤◌, ◌⊎◌, map, string_bytes, None, IfSome, IsSomeAnd};
+ghost use Rattle.std.specs.Prelude.{◌≡◌, ◌≢◌, ◌≤◌, ◌⊎◌, map, string_bytes, None, Some, IfSome, IsSomeAnd};
 ghost use Rattle.outside.specs.Faults.{Rose};
-ghost use Rattle.sledge.specs.CommandLine.{command_of};
+ghost use Rattle.sledge.specs.CommandLine.{AsksReplay, ReplayWords, command_of};
 ghost use Rattle.sledge.specs.Commands.{ending, plan_for};
 ghost use Rattle.sledge.specs.Endings.{Ended, out_of_memory, status_of};
 ghost use Rattle.sledge.specs.Delivery.{Leaves, Took};
 ghost use Rattle.sledge.specs.Plans.{Walks};
 ghost use Rattle.sledge.specs.Promises.{Refused, WriteRose, Yields};
+ghost use Rattle.sledge.specs.Replays.{WritesReplay};
 
 use crate::delivery::deliver;
 use crate::planning::plan;
@@ -28,13 +29,13 @@ const OUT_OF_MEMORY: &[u8] = b"memory\n";
 ///
 /// What an ending is of each command, and when, the laws say (`laws::endings`).
 pub fn run<R: Threads + Sync, L: Library, S: Sink, N: Sink, G: Gate>(
-    _rt: &R,
+    rt: &R,
     alloc: Global,
     words: &[String],
     lib: &mut L,
     out: &mut S,
     notes: &mut N,
-    _gate: &G,
+    gate: &G,
 ) -> Status
     // There is one ending, by the plan of the words and the reads that were made in this call,
     // and the status and the outputs are its.
@@ -69,19 +70,29 @@ pub fn run<R: Threads + Sync, L: Library, S: Sink, N: Sink, G: Gate>(
         → WriteRose (S.state out.old) (S.state out.new) (N.state notes.old) (N.state notes.new) }
     ensures no_server { (result ≢ Status.NoThread) × (result ≢ Status.DoorFault) }
 
+    // The replay theorem: a `replay` that ends with status 0 over a library that tells its files has
+    // written just the text of the one-thread definition of the configuration, the programs and the
+    // recording that the files spell, and the line of its summary.
+    ensures replay { result ≡ Status.Ok → (r : ReplayWords)
+        → command_of (map string_bytes words.now) ≡ Some (AsksReplay r)
+        → IfSome (L.state lib.old).held (λ files. WritesReplay r files
+        (S.state out.old) (S.state out.new) (N.state notes.old) (N.state notes.new)) }
+
     ensures same_files { (L.state lib.new).held ≡ (L.state lib.old).held }
     ensures later { (L.state lib.old).faults ≤ (L.state lib.new).faults }
 {
-    carry_out(alloc, words, lib, out, notes)
+    carry_out(rt, alloc, words, lib, out, notes, gate)
 }
 
 /// Plans the ending, and then writes what is due.
-fn carry_out<L: Library, S: Sink, N: Sink>(
+fn carry_out<R: Threads + Sync, L: Library, S: Sink, N: Sink, G: Gate>(
+    rt: &R,
     alloc: Global,
     words: &[String],
     lib: &mut L,
     out: &mut S,
     notes: &mut N,
+    gate: &G,
 ) -> Status
     ensures ended { (e : Ended)
         × (Walks L.gave (plan_for (map string_bytes words.now)) lib.old lib.new e
@@ -91,7 +102,7 @@ fn carry_out<L: Library, S: Sink, N: Sink>(
     ensures same_files { (L.state lib.new).held ≡ (L.state lib.old).held }
     ensures later { (L.state lib.old).faults ≤ (L.state lib.new).faults }
 {
-    match plan(alloc, words, lib) {
+    match plan(rt, alloc, words, lib, gate) {
         Ok(ending) => match deliver(ending.text(), ending.note().as_bytes(), out, notes) {
             Ok(()) => ending.status(),
             Err(_) => Status::WriteFault,

@@ -7,7 +7,8 @@ use Rattle.wasm_meaning.specs.ValidityChecks.{Check}
 use Rattle.sledge.proofs.Walking.{comes_end}
 use Rattle.sledge.specs.Accepted.{given_pages}
 use Rattle.sledge.specs.CommandLine.{invoke_view}
-use Rattle.sledge.specs.Commands.{body_plan, linked, validated}
+use Rattle.sledge.specs.Commands.{body_plan}
+use Rattle.sledge.specs.ModuleChecks.{linked, validated}
 use Rattle.sledge.specs.Plans.{Comes, go_on}
 use Rattle.sledge.proofs.planning.from_parts.Goals as goal
 
@@ -17,12 +18,12 @@ pub returns-in-Ok-clause-comes : goal.returns-in-Ok-clause-comes
 returns-in-Ok-clause-comes g c =
     IfOk-weaker c.from_valid.result _ _
     (λ e p. subst (λ step. Comes g.L.Library.gave (go_on (body_plan (invoke_view c.args.invoke)) step) c.args.lib.now c.from_valid.new.lib e)
-    (ap (λ (m : Module). linked (link m given_pages)) c.in-Ok.ensures.same ∙ sym (ap (λ (check : Check). validated check c.args.parts) c.in-Ok.ensures.walked)) p)
+    (ap (λ (m : Module). linked 0 (link m given_pages)) c.in-Ok.ensures.same ∙ sym (ap (λ (check : Check). validated 0 given_pages check c.args.parts) c.in-Ok.ensures.walked)) p)
     c.from_valid.ensures.comes
 
 pub returns-in-Err-Rule-clause-comes : goal.returns-in-Err-Rule-clause-comes
 returns-in-Err-Rule-clause-comes g c =
     IfOk-weaker c.module_fault.result _ _
     (λ e p. subst (λ step. Comes g.L.Library.gave (go_on (body_plan (invoke_view c.args.invoke)) step) c.args.lib.now c.args.lib.now e)
-    (let due : module_walk c.args.parts ≡ Err c.in-Err-Rule.broken = search rules in sym (ap (λ (check : Check). validated check c.args.parts) due)) (comes_end _ _ _ e p))
+    (let due : module_walk c.args.parts ≡ Err c.in-Err-Rule.broken = search rules in sym (ap (λ (check : Check). validated 0 given_pages check c.args.parts) due)) (comes_end _ _ _ e p))
     c.module_fault.ensures

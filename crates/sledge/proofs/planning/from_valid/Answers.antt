@@ -7,8 +7,9 @@ use Rattle.wasm_instance.proofs.Outcomes.{linked_is}
 use Rattle.sledge.proofs.Walking.{comes_end}
 use Rattle.sledge.specs.Accepted.{given_pages}
 use Rattle.sledge.specs.CommandLine.{invoke_view}
-use Rattle.sledge.specs.Commands.{body_plan, linked}
+use Rattle.sledge.specs.Commands.{body_plan}
 use Rattle.sledge.specs.Endings.{module_fault}
+use Rattle.sledge.specs.ModuleChecks.{linked}
 use Rattle.sledge.specs.Plans.{Comes, Step, Stops, go_on}
 use Rattle.sledge.proofs.planning.from_valid.Goals as goal
 
@@ -21,7 +22,7 @@ pub returns-in-Ok-clause-comes : goal.returns-in-Ok-clause-comes
 returns-in-Ok-clause-comes g c =
     IfOk-weaker c.from_body.result _ _
     (λ e p. subst (λ step. Comes g.L.Library.gave (go_on (body_plan (invoke_view c.args.invoke)) step) c.args.lib.now c.from_body.new.lib e)
-    (sym (ap (λ (r : Result Program Unlinked). linked r) c.in-Ok.ensures.linked)) p)
+    (sym (ap (λ (r : Result Program Unlinked). linked 0 r) c.in-Ok.ensures.linked)) p)
     c.from_body.ensures.comes
 
 pub returns-in-Err-Refused-clause-comes : goal.returns-in-Err-Refused-clause-comes
@@ -30,7 +31,7 @@ returns-in-Err-Refused-clause-comes g c =
     let due : link c.args.valid given_pages ≡ Err why = search rules in
     IfOk-weaker c.module_fault.result _ _
     (λ e p. subst (λ step. Comes g.L.Library.gave (go_on (body_plan (invoke_view c.args.invoke)) step) c.args.lib.now c.args.lib.now e)
-    (numbered c.number.result (link_number why.rule) why.item c.number.ensures ∙ sym (ap (λ (r : Result Program Unlinked). linked r) due))
+    (numbered c.number.result (link_number why.rule) why.item c.number.ensures ∙ sym (ap (λ (r : Result Program Unlinked). linked 0 r) due))
     (comes_end _ _ _ e p))
     c.module_fault.ensures
 

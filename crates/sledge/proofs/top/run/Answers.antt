@@ -1,5 +1,6 @@
 use Rattle.std.proofs.Common.{map, refl, string_bytes}
 use Rattle.sledge.proofs.Clauses.{leaves_done, leaves_exactly, leaves_no_server, leaves_read_fault, leaves_refused, leaves_usage, leaves_write_fault}
+use Rattle.sledge.proofs.ReplayWalks.{writes_replay}
 use Rattle.sledge.specs.CommandLine.{command_of}
 use Rattle.sledge.proofs.top.run.Goals as goal
 
@@ -34,3 +35,11 @@ returns-clause-write_fault g c =
 pub returns-clause-no_server : goal.returns-clause-no_server
 returns-clause-no_server g c =
     leaves_no_server g.L.Library.gave (command_of (map string_bytes c.args.words.now)) _ _ c.carry_out.ensures.ended.0 _ _ _ _ _ c.carry_out.ensures.ended.1 c.carry_out.ensures.ended.2
+
+pub returns-clause-replay : goal.returns-clause-replay
+returns-clause-replay g c =
+    λ done r asks. writes_replay _ (map string_bytes c.args.words.now) r _ (g.L.Library.state c.args.lib.now) (g.L.Library.state c.carry_out.new.lib) _ _ _ _ done asks
+    (leaves_exactly g.L.Library.state g.L.Library.gave g.met.L.Library.tells _ (command_of (map string_bytes c.args.words.now)) _ _ c.carry_out.ensures.ended.0 _ _ _ _ _ refl
+    c.carry_out.ensures.ended.1 c.carry_out.ensures.ended.2)
+    (leaves_done g.L.Library.state g.L.Library.gave g.met.L.Library.tells _ (command_of (map string_bytes c.args.words.now)) _ _ c.carry_out.ensures.ended.0 _ _ _ _ _ refl
+    c.carry_out.ensures.ended.1 c.carry_out.ensures.ended.2 done)

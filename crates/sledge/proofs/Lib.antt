@@ -9,6 +9,4 @@ mod PlanExamples
 pub mod RecordingLaws
 pub mod ReplayLaws
 pub mod ReplayWalks
-pub mod SoakLaws
-pub mod SoakWalks
 pub mod Walking

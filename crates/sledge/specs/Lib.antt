@@ -11,6 +11,5 @@ pub mod Readying
 pub mod Recordings
 pub mod ReplayPlans
 pub mod Replays
-pub mod SoakPlans
 pub mod Statuses
 pub mod Texts

@@ -11,8 +11,6 @@ pub mod laws;
 mod planning;
 pub mod replay_laws;
 mod replaying;
-pub mod soak_laws;
-mod soaking;
 mod status;
 #[cfg(test)]
 mod tests;

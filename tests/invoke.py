@@ -69,7 +69,7 @@ ROWS = [
     ("invoke m0 empty", 2, b"", "usage\n"),
     ("invoke m0 empty 10 10", 2, b"", "usage\n"),
     ("replay a", 2, b"", "usage\n"),
-    ("check m0", 2, b"", "usage\n"),
+    ("check", 2, b"", "usage\n"),
     ("--version", 0, b"Cavundel 0.1.0\n", ""),
 ]
 
@@ -200,7 +200,7 @@ def run(words, folder, out=subprocess.PIPE):
 def help_is_whole(shown):
     """It shows each shape and each exit status, and fits a terminal of 80 columns."""
     lines = shown.decode().splitlines()
-    shapes = ["  sledge invoke MODULE BODY BUDGET", "  sledge --help", "  sledge --version"]
+    shapes = ["  sledge invoke MODULE BODY BUDGET", "  sledge check CONFIG", "  sledge --help", "  sledge --version"]
     statuses = [line.split()[0] for line in lines if line[:3].strip().isdigit() and line[:2] == "  "]
     return (
         lines[0] == "usage:"

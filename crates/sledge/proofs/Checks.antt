@@ -27,7 +27,7 @@ use Rattle.serve_config.specs.declared.tenants.Route.{Route}
 use Rattle.sledge.proofs.Walking.{IsSteady}
 use Rattle.sledge.specs.Accepted.{IsAccepted, IsInvalid, IsUnlinked, given_pages}
 use Rattle.sledge.specs.CheckPlans.{Onward, check_config, check_route, config_limit, config_plan, config_step, counted, module_name, modules_plan, routes_plan}
-use Rattle.sledge.specs.CommandLine.{Asked, AsksHelp, AsksVersion, AsksInvoke, AsksCheck, AsksReplay, InvokeWords}
+use Rattle.sledge.specs.CommandLine.{Asked, AsksHelp, AsksVersion, AsksInvoke, AsksCheck, AsksReplay, InvokeWords, AsksSoak, SoakWords}
 use Rattle.sledge.specs.Commands.{body_limit, body_plan, check_body, check_invoked, plan_of}
 use Rattle.sledge.specs.Endings.{Ended, module_fault, recording_fault}
 use Rattle.sledge.specs.ModuleChecks.{check_module, linked, module_step, validated}
@@ -39,6 +39,9 @@ use Rattle.recording_format.specs.declared.refusals.Refusal.TheVariants.{BadMagi
 use Rattle.recorded_arrivals.specs.Limits.{has_too_many}
 use Rattle.sledge.specs.Recordings.{recording_of, records_ahead}
 use Rattle.sledge.specs.ReplayPlans.{check_recording, recording_limit, recording_plan, recording_step, replayed, unless_too_many}
+use Rattle.sledge.specs.SoakPlans.{soak_end, soak_loaded, soak_plan, summed_unless}
+use Rattle.generated_load.specs.Configuration.{soak_configuration}
+use Rattle.generated_load.specs.Recording.{soak_records}
 use Rattle.sledge.specs.Plans.{Ends, Goes, Plan, Step, Stops, checked_file, go_on, limited}
 
 -- Lengths and fronts.
@@ -271,6 +274,17 @@ body_plan_steady words program =
     (λ bytes. limited_well (nat_lt body_limit (length bytes)) (recording_fault 76) (Goes bytes) tt tt)
     (λ body. tt)
 
+-- a `soak`, which reads nothing
+
+summed_steady : (config : Configuration) (programs : List Program) (records : List Record) (many : Bool) → IsSteady (Ends (summed_unless many config programs records))
+summed_steady config programs records true = tt
+summed_steady config programs records false = tt
+
+soak_steady : (words : SoakWords) → IsSteady (soak_plan words)
+unfolding soak_end
+soak_steady words =
+    summed_steady soak_configuration soak_loaded (soak_records words.start words.count) (has_too_many (soak_records words.start words.count))
+
 pub plan_steady : (asked : Asked) → IsSteady (plan_of (Some asked))
 plan_steady AsksHelp = tt
 plan_steady AsksVersion = tt
@@ -278,3 +292,4 @@ plan_steady (AsksInvoke words) =
     checked_file_steady words.module_name most_bytes check_invoked (body_plan words) (module_front 0 given_pages) (module_well 0 given_pages) (body_plan_steady words)
 plan_steady (AsksCheck name) = config_plan_steady name (λ c programs. Ends (counted c)) (λ c programs. tt)
 plan_steady (AsksReplay words) = config_plan_steady words.config_name (recording_plan words.recording_name) (recording_steady words.recording_name)
+plan_steady (AsksSoak words) = soak_steady words

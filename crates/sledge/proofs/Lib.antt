@@ -9,4 +9,6 @@ mod PlanExamples
 pub mod RecordingLaws
 pub mod ReplayLaws
 pub mod ReplayWalks
+pub mod SoakLaws
+pub mod SoakWalks
 pub mod Walking

@@ -6,11 +6,12 @@ use Rattle.wasm_meaning.specs.Requests.{Request, Verdict, BudgetSpent, units, ve
 use Rattle.wasm_reader.specs.Modules.{most_bytes}
 use Rattle.sledge.specs.Accepted.{given_pages}
 use Rattle.sledge.specs.CheckPlans.{check_plan}
-use Rattle.sledge.specs.CommandLine.{Asked, AsksHelp, AsksVersion, AsksInvoke, AsksCheck, AsksReplay, InvokeWords, command_of}
+use Rattle.sledge.specs.CommandLine.{Asked, AsksHelp, AsksVersion, AsksInvoke, AsksCheck, AsksReplay, AsksSoak, InvokeWords, command_of}
 use Rattle.sledge.specs.Endings.{Ended, answered, recording_fault, shown, usage}
 use Rattle.sledge.specs.ModuleChecks.{check_module}
 use Rattle.sledge.specs.Plans.{Plan, Ends, Step, Stops, Goes, checked_file, limited, over}
 use Rattle.sledge.specs.ReplayPlans.{replay_plan}
+use Rattle.sledge.specs.SoakPlans.{soak_plan}
 use Rattle.sledge.specs.Texts.{help_text, version_text}
 
 -- the module of an `invoke`, which is told as that of route 0
@@ -59,6 +60,7 @@ plan_of (Some AsksVersion) = Ends (shown version_text)
 plan_of (Some (AsksInvoke words)) = invoke_plan words
 plan_of (Some (AsksCheck name)) = check_plan name
 plan_of (Some (AsksReplay words)) = replay_plan words
+plan_of (Some (AsksSoak words)) = soak_plan words
 
 -- the plan of these words
 abbrev pub plan_for : (words : List (List ℕ)) → Plan

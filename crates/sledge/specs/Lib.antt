@@ -11,5 +11,6 @@ pub mod Readying
 pub mod Recordings
 pub mod ReplayPlans
 pub mod Replays
+pub mod SoakPlans
 pub mod Statuses
 pub mod Texts

@@ -1,14 +1,17 @@
 //! What the words of a command line ask for.
 
-ghost use Rattle.std.specs.Prelude.{◌≡◌, ◌^◌, ◌≤◌, map, IfSome};
+ghost use Rattle.std.specs.Prelude.{◌≡◌, ◌<◌, ◌^◌, ◌≤◌, map, IfSome};
 ghost use Rattle.std.specs.Char.{is_ascii_digit};
 ghost use Rattle.std.specs.List.{list_all};
 ghost use Rattle.std.specs.Option.{option_map};
 ghost use Rattle.std.specs.String.{string_bytes};
-ghost use Rattle.sledge.specs.CommandLine.{command_of, budget_of, is_decimal, lone_word, two_words, three_words, command_view, IsWithin};
+ghost use Rattle.sledge.specs.CommandLine.{command_of, budget_of, is_decimal, number_within, lone_word, two_words, three_words, soak_words, command_view, IsWithin};
 
 /// The most operators that an `invoke` may be given to spend.
 const GREATEST_BUDGET: u64 = 1 << 40;
+
+/// The most requests of a `soak`.
+const MOST_REQUESTS: u64 = 4096;
 
 /// The most digits of a number among the words.
 const MOST_DIGITS: usize = 20;
@@ -26,6 +29,17 @@ pub enum Command<'a> {
     Check(&'a str),
     /// `replay CONFIG RECORDING`: answers what a recording has, as the configuration says.
     Replay(Replay<'a>),
+    /// `soak START COUNT`: replays a load that the program makes for itself.
+    Soak(Soak),
+}
+
+/// The words of a `soak`.
+#[derive(Clone, Copy, Debug)]
+pub struct Soak {
+    /// Where the load's generator starts.
+    pub start: u64,
+    /// How many requests there are, 1 to 4,096.
+    pub count: u32,
 }
 
 /// The words of a `replay`.
@@ -57,9 +71,7 @@ impl<'a> Command<'a> {
         match words {
             [word] => lone_word(word.as_str()),
             [word, name] => two_words(word.as_str(), name.as_str()),
-            [word, config, recording] => {
-                three_words(word.as_str(), config.as_str(), recording.as_str())
-            }
+            [word, first, second] => three_words(word.as_str(), first.as_str(), second.as_str()),
             [word, module, body, budget] => {
                 if word.as_str() != "invoke" {
                     return None;
@@ -103,18 +115,52 @@ fn two_words<'a>(word: &str, name: &'a str) -> Option<Command<'a>>
 }
 
 /// The command that is asked for by three words.
-fn three_words<'a>(word: &str, config: &'a str, recording: &'a str) -> Option<Command<'a>>
-    ensures shape { option_map command_view result ≡ three_words word.now config.now recording.now }
+fn three_words<'a>(word: &str, first: &'a str, second: &'a str) -> Option<Command<'a>>
+    ensures shape { option_map command_view result ≡ three_words word.now first.now second.now }
     ensures within { IfSome result IsWithin }
 {
     if word == "replay" {
         Some(Command::Replay(Replay {
-            config_name: config,
-            recording_name: recording,
+            config_name: first,
+            recording_name: second,
         }))
+    } else if word == "soak" {
+        soak_words(first, second)
     } else {
         None
     }
+}
+
+/// The `soak` that these two words ask for.
+fn soak_words<'a>(start: &str, count: &str) -> Option<Command<'a>>
+    ensures shape { option_map command_view result ≡ soak_words start.now count.now }
+    ensures within { IfSome result IsWithin }
+{
+    let start = number_within(start, 0, u64::MAX)?;
+    let count = number_within(count, 1, MOST_REQUESTS)?;
+    Some(Command::Soak(Soak {
+        start,
+        count: count as u32,
+    }))
+}
+
+/// The number that 1 to 20 decimal digits write, where it is in this range.
+fn number_within(word: &str, least: u64, most: u64) -> Option<u64>
+    ensures value { result ≡ number_within least most word.now }
+    ensures above { IfSome result (λ number. least ≤ number) }
+    ensures below { IfSome result (λ number. number ≤ most) }
+{
+    if !is_decimal(word.as_bytes()) {
+        return None;
+    }
+    let number = word.parse::<u64>().ok()?;
+    if number < least {
+        return None;
+    }
+    if most < number {
+        return None;
+    }
+    Some(number)
 }
 
 /// The number that 1 to 20 decimal digits write, where it is at most 2^40.

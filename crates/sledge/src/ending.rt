@@ -154,6 +154,14 @@ impl Ending {
         })
     }
 
+    /// A load was replayed: the line of the summary, as a text.
+    pub fn summed(alloc: Global, summary: Summary) -> Result<Ending, AllocError>
+        ensures { IfOk result (λ e. e ≡ due (shown (summary_line summary))) }
+    {
+        let line = summary_line(alloc, summary)?;
+        Ending::shown(alloc, line.as_str())
+    }
+
     /// The program ran: the reply to a kept GET, and what the run cost.
     pub fn answered(alloc: Global, answer: &Answer) -> Result<Ending, AllocError>
         ensures { IfOk result (λ e. e ≡ due (answered answer.now.verdict answer.now.units)) }

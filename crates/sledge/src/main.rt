@@ -11,6 +11,8 @@ pub mod laws;
 mod planning;
 pub mod replay_laws;
 mod replaying;
+pub mod soak_laws;
+mod soaking;
 mod status;
 #[cfg(test)]
 mod tests;

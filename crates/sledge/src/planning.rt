@@ -16,6 +16,7 @@ use crate::command::{Command, Invoke};
 use crate::ending::Ending;
 use crate::execution::execute;
 use crate::replaying::replay_files;
+use crate::soaking::soak;
 use crate::texts::{HELP, VERSION};
 use outside::{Fetch, Gate, Library};
 use std::alloc::{AllocError, Global};
@@ -54,6 +55,7 @@ pub fn plan<R: Threads + Sync, L: Library, G: Gate>(
         Some(Command::Version) => Ending::shown(alloc, VERSION),
         Some(Command::Invoke(invoke)) => from_module(alloc, invoke, lib),
         Some(Command::Check(name)) => check(alloc, name, lib),
+        Some(Command::Soak(words)) => soak(rt, alloc, words, gate),
         Some(Command::Replay(words)) => replay_files(rt, alloc, words, lib, gate),
     }
 }

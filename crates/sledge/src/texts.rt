@@ -12,6 +12,9 @@ pub const HELP: &str = "usage:
   sledge replay CONFIG RECORDING
       answers the requests in the file RECORDING as the configuration says, and
       writes the replies of each connection to the standard output
+  sledge soak START COUNT
+      makes COUNT requests (1 to 4096) from the number START (below 2^64),
+      answers them, and writes the summary to the standard output
   sledge --help
       shows this text
   sledge --version

@@ -25,3 +25,10 @@ returns-in-Some-Version-clause-comes g c =
     IfOk-weaker c.shown-in-Some-Version.result _ _
     (λ e p. subst (λ asked. Comes g.L.Library.gave (plan_of asked) c.args.lib.now c.args.lib.now e) asks (comes_end _ _ _ e p))
     c.shown-in-Some-Version.ensures
+
+pub returns-in-Some-Soak-clause-comes : goal.returns-in-Some-Soak-clause-comes
+returns-in-Some-Soak-clause-comes g c =
+    let asks = ap (λ command. Some (command_view command)) (sym c.in-Some-Soak.field-0-is) ∙ c.in-Some-Soak.ensures.shape in
+    IfOk-weaker c.soak.result _ _
+    (λ e p. subst (λ asked. Comes g.L.Library.gave (plan_of asked) c.args.lib.now c.args.lib.now e) asks (comes_end _ _ _ e p))
+    c.soak.ensures

@@ -3,7 +3,7 @@
 
     machine.py [ROUNDS]      builds the program where it is not built, by the script `sledge` at the top
 
-Each loop runs in both programs by turns, and the least time of the rounds counts, without that of a run of almost nothing.
+Each loop runs in both programs by turns, and the least processor time of the rounds counts, without that of a run of almost nothing.
 It prints nanoseconds a unit and the ratios; where `wasm-interp` (package `wabt`) is missing, the times alone.
 """
 
@@ -13,7 +13,6 @@ import shutil
 import subprocess
 import sys
 import tempfile
-import time
 
 TOP = os.path.join(os.path.dirname(os.path.abspath(__file__)), "..")
 sys.path.insert(0, os.path.join(TOP, "tests"))
@@ -50,12 +49,13 @@ LOOPS = [
 
 
 def seconds(words, folder):
-    begun = time.perf_counter()
-    done = subprocess.run(words, cwd=folder, capture_output=True)
-    taken = time.perf_counter() - begun
+    with subprocess.Popen(words, cwd=folder, stdout=subprocess.DEVNULL, stderr=subprocess.PIPE) as done:
+        said = done.stderr.read()
+        _, status, used = os.wait4(done.pid, 0)
+        done.returncode = os.waitstatus_to_exitcode(status)
     if done.returncode != 0:
-        sys.exit("%s: %r" % (" ".join(words), done.stderr[:300]))
-    return taken, done.stderr.decode()
+        sys.exit("%s: %r" % (" ".join(words), said[:300]))
+    return used.ru_utime + used.ru_stime, said.decode()
 
 
 def least(programs, folder, rounds):

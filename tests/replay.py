@@ -210,7 +210,20 @@ def main():
         with open("/dev/full", "wb") as full:
             done = run(folder, ["replay", "config", "recording"], stdout=full, stderr=subprocess.PIPE)
         failed += check("an output that is full", (7, b""), (done.returncode, done.stderr))
-        runs += 2
+        with open("/dev/full", "wb") as full:
+            done = run(folder, ["replay", "config", "recording"], stdout=subprocess.PIPE, stderr=full)
+        failed += check("notes that are full", (7, TWO_ANSWERS), (done.returncode, done.stdout))
+        runs += 3
+        # Each read of the two requests' replay fails in turn: there is a folder where its file was.
+        for name in ("config", "echo", "nil", "recording"):
+            path = os.path.join(folder, name)
+            os.rename(path, path + ".kept")
+            os.mkdir(path)
+            done = run(folder, ["replay", "config", "recording"])
+            failed += check("a read that fails of " + name, (3, b"", b"read %s\n" % name.encode()), (done.returncode, done.stdout, done.stderr))
+            os.rmdir(path)
+            os.rename(path + ".kept", path)
+            runs += 1
     with open(os.path.join(TOP, "examples", "replay", "answers"), "rb") as file:
         stored = file.read()
     done = run(TOP, ["replay", "examples/replay/config.json", "examples/replay/recording"])

@@ -7,7 +7,7 @@ use Rattle.wasm_ops.specs.declared.modules.ByteSegment.{ByteSegment}
 use Rattle.wasm_ops.specs.declared.modules.ElementSegment.{ElementSegment}
 use Rattle.wasm_ops.specs.declared.modules.Module.{Module}
 use Rattle.wasm_ops.specs.declared.types.Limits.{Limits}
-use Rattle.wasm_meaning.specs.declared.links.LinkRule.TheVariants.{FewPages}
+use Rattle.wasm_meaning.specs.declared.links.LinkRule.TheVariants.{TooManyPages}
 use Rattle.wasm_meaning.specs.declared.violations.Rule.TheVariants.{TwoMemories, MemoryLimits}
 use Rattle.wasm_meaning.specs.Bytes.{page, zeros, grown}
 use Rattle.wasm_meaning.specs.Linking.{told_at, first_refused, broken_unless, import_refusal, entry_refusal, export_named, entry_name, least_of, first_pages, first_elements, element_refusal, bytes_refusal, link_refusal}
@@ -28,7 +28,7 @@ unfolding link_refusal
 passed m pages links =
     let imports = first_refused (import_refusal m.types) 0 m.imports in
     let entry = told_at 0 (entry_refusal m (export_named entry_name m.exports)) in
-    let few = told_at 0 (broken_unless FewPages (not (nat_lt pages (first_pages m)))) in
+    let few = told_at 0 (broken_unless TooManyPages (not (nat_lt pages (first_pages m)))) in
     let elements = first_refused (element_refusal (first_elements m)) 0 m.elements in
     let segments = first_refused (bytes_refusal (first_pages m * page)) 0 m.segments in
     let a = none_of_all imports (entry ∷ few ∷ elements ∷ segments ∷ []) links in
@@ -36,7 +36,7 @@ passed m pages links =
     let c = none_of_all few (elements ∷ segments ∷ []) b.1 in
     let d = none_of_all elements (segments ∷ []) c.1 in
     let e = none_of_all segments [] d.1 in
-    let enough = holds_unless FewPages (not (nat_lt pages (first_pages m))) (not_told 0 (broken_unless FewPages (not (nat_lt pages (first_pages m)))) c.0) in
+    let enough = holds_unless TooManyPages (not (nat_lt pages (first_pages m))) (not_told 0 (broken_unless TooManyPages (not (nat_lt pages (first_pages m)))) c.0) in
     record { few_pages = not_more pages (first_pages m) enough; elements = d.0; segments = e.0 }
   where
     not_more : (given first : ℕ) → not (nat_lt given first) ≡ true → first ≤ given

@@ -109,7 +109,7 @@ pub(crate) fn link_refusal(valid: &Valid, pages: u32) -> Option<Unlinked>
     }
     let first = first_pages(module);
     if pages < first {
-        return Some(outside(LinkRule::FewPages));
+        return Some(outside(LinkRule::TooManyPages));
     }
     if let Some(why) = elements_refusal(first_elements(module), module.elements.as_slice()) {
         return Some(why);

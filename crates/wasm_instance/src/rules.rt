@@ -50,7 +50,7 @@ fn host_refusal(host: Option<HostName>, function: Option<&FuncType>) -> Option<L
     ensures { result ≡ host_due host (option_copied function.entry) }
 {
     let Some(host) = host else {
-        return Some(LinkRule::KnownImport);
+        return Some(LinkRule::UnknownImport);
     };
     match function {
         Some(function) if has_host_type(host, function) => None,
@@ -98,7 +98,7 @@ pub(crate) fn entry_refusal(valid: &Valid, export: Option<&Export>) -> Option<Li
     match export {
         Some(export) if is_entry(valid, export) => None,
         Some(_) => Some(LinkRule::StartShape),
-        None => Some(LinkRule::HasStart),
+        None => Some(LinkRule::NoStart),
     }
 }
 

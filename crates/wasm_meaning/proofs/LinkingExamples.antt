@@ -6,7 +6,7 @@ use Rattle.wasm_ops.specs.declared.modules.ImportItem.TheVariants as item
 use Rattle.wasm_ops.specs.declared.modules.Module.{Module}
 use Rattle.wasm_meaning.proofs.Modules.{bare, transfer, start_at, from_host, i32, pages, alone}
 use Rattle.wasm_meaning.specs.declared.links.LinkRule.{LinkRule}
-use Rattle.wasm_meaning.specs.declared.links.LinkRule.TheVariants.{KnownImport, ImportType, ImportKind, HasStart, StartShape, SegmentRange, FewPages}
+use Rattle.wasm_meaning.specs.declared.links.LinkRule.TheVariants.{UnknownImport, ImportType, ImportKind, NoStart, StartShape, SegmentRange, TooManyPages}
 use Rattle.wasm_meaning.specs.declared.links.Unlinked.{Unlinked}
 use Rattle.wasm_meaning.specs.Linking.{link_refusal}
 use Rattle.wasm_meaning.specs.Programs.{most}
@@ -29,11 +29,11 @@ import_kind : refusal (importing (from_host (codes "fd_read") (item.Function 1) 
 unfolding link_refusal
 import_kind = refl
 
-unknown_import : refusal (importing (from_host (codes "fd_read") (item.Function 1) ∷ from_host (codes "fd_reaD") (item.Function 1) ∷ [])) ≡ refused KnownImport 1
+unknown_import : refusal (importing (from_host (codes "fd_read") (item.Function 1) ∷ from_host (codes "fd_reaD") (item.Function 1) ∷ [])) ≡ refused UnknownImport 1
 unfolding link_refusal
 unknown_import = refl
 
-other_module : refusal (importing (record { «module» = codes "wasi"; name = codes "fd_read"; item = item.Function 1 } ∷ [])) ≡ refused KnownImport 0
+other_module : refusal (importing (record { «module» = codes "wasi"; name = codes "fd_read"; item = item.Function 1 } ∷ [])) ≡ refused UnknownImport 0
 unfolding link_refusal
 other_module = refl
 
@@ -42,7 +42,7 @@ unfolding link_refusal
 import_type = refl
 
 -- no `_start`; a memory of that name; a function that has parameters
-no_start : refusal (record (alone Done) { exports = [] }) ≡ refused HasStart 0
+no_start : refusal (record (alone Done) { exports = [] }) ≡ refused NoStart 0
 unfolding link_refusal
 no_start = refl
 
@@ -59,7 +59,7 @@ as_many_pages : refusal (record (alone Done) { memories = pages 2 None }) ≡ No
 unfolding link_refusal
 as_many_pages = refl
 
-too_many_pages : refusal (record (alone Done) { memories = pages 3 None }) ≡ refused FewPages 0
+too_many_pages : refusal (record (alone Done) { memories = pages 3 None }) ≡ refused TooManyPages 0
 unfolding link_refusal
 too_many_pages = refl
 

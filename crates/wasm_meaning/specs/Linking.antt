@@ -12,7 +12,7 @@ use Rattle.wasm_ops.specs.declared.modules.Module.{Module}
 use Rattle.wasm_ops.specs.declared.types.FuncType.{FuncType}
 use Rattle.wasm_ops.specs.declared.types.Limits.{Limits}
 use Rattle.wasm_meaning.specs.declared.links.LinkRule.{LinkRule}
-use Rattle.wasm_meaning.specs.declared.links.LinkRule.TheVariants.{KnownImport, ImportType, ImportKind, HasStart, StartShape, SegmentRange, FewPages}
+use Rattle.wasm_meaning.specs.declared.links.LinkRule.TheVariants.{UnknownImport, ImportType, ImportKind, NoStart, StartShape, SegmentRange, TooManyPages}
 use Rattle.wasm_meaning.specs.declared.links.Unlinked.{Unlinked}
 use Rattle.wasm_meaning.specs.Bytes.{page}
 use Rattle.wasm_meaning.specs.Control.{same_function_type}
@@ -57,7 +57,7 @@ has_host_type host None = false
 has_host_type host (Some type) = same_function_type (host_type host) type
 
 abbrev pub host_refusal : Option HostName → Option FuncType → Option LinkRule
-host_refusal None type = Some KnownImport
+host_refusal None type = Some UnknownImport
 host_refusal (Some host) type = broken_unless ImportType (has_host_type host type)
 
 -- an import is a function, one of the host's, and of its type
@@ -88,7 +88,7 @@ abbrev pub is_entry : Module → Export → Bool
 is_entry m export = export.kind == 0 && unwrap_or (option_map takes_nothing (function_type m export.index)) false
 
 abbrev pub entry_refusal : Module → Option Export → Option LinkRule
-entry_refusal m None = Some HasStart
+entry_refusal m None = Some NoStart
 entry_refusal m (Some export) = broken_unless StartShape (is_entry m export)
 
 -- Memory and table.
@@ -119,7 +119,7 @@ link_refusal m pages =
     first_of_all (
     first_refused (import_refusal m.types) 0 m.imports
     ∷ told_at 0 (entry_refusal m (export_named entry_name m.exports))
-    ∷ told_at 0 (broken_unless FewPages (not (nat_lt pages (first_pages m))))
+    ∷ told_at 0 (broken_unless TooManyPages (not (nat_lt pages (first_pages m))))
     ∷ first_refused (element_refusal (first_elements m)) 0 m.elements
     ∷ first_refused (bytes_refusal (first_pages m * page)) 0 m.segments
     ∷ [])

@@ -6,7 +6,7 @@ ghost use Rattle.wasm_meaning.specs.LinkRules.{link_number};
 #[derive(Clone, Copy, Debug, PartialEq, Eq)]
 pub enum LinkRule {
     /// An imported function is one of the host's.
-    KnownImport,
+    UnknownImport,
 
     /// An imported function has the type of the host's function.
     ImportType,
@@ -15,7 +15,7 @@ pub enum LinkRule {
     ImportKind,
 
     /// There is an export named `_start`.
-    HasStart,
+    NoStart,
 
     /// `_start` is a function of no parameters and no result.
     StartShape,
@@ -24,7 +24,7 @@ pub enum LinkRule {
     SegmentRange,
 
     /// The memory's first pages are no more than the program is given.
-    FewPages,
+    TooManyPages,
 }
 
 impl LinkRule {
@@ -33,13 +33,13 @@ impl LinkRule {
         ensures { result ≡ link_number self }
     {
         match self {
-            LinkRule::KnownImport => 50,
+            LinkRule::UnknownImport => 50,
             LinkRule::ImportType => 51,
             LinkRule::ImportKind => 52,
-            LinkRule::HasStart => 53,
+            LinkRule::NoStart => 53,
             LinkRule::StartShape => 54,
             LinkRule::SegmentRange => 55,
-            LinkRule::FewPages => 56,
+            LinkRule::TooManyPages => 56,
         }
     }
 }

@@ -17,7 +17,7 @@ use Rattle.wasm_ops.specs.declared.types.Limits.{Limits}
 use Rattle.wasm_ops.specs.declared.types.ValType.{ValType}
 use Rattle.wasm_ops.specs.declared.types.ValType.TheVariants.{I32, I64}
 use Rattle.wasm_meaning.specs.declared.blocks.GlobalType.{GlobalType}
-use Rattle.wasm_meaning.specs.declared.links.LinkRule.TheVariants.{SegmentRange, FewPages}
+use Rattle.wasm_meaning.specs.declared.links.LinkRule.TheVariants.{SegmentRange, TooManyPages}
 use Rattle.wasm_meaning.specs.declared.violations.Rule.TheVariants.{UnknownIndex, ConstantType, TwoMemories, MemoryLimits}
 use Rattle.wasm_meaning.specs.Bytes.{page, zeros, with_bytes, size_of}
 use Rattle.wasm_meaning.specs.Linking.{first_refused, import_refusal, item_refusal, host_in, told_at, broken_unless, entry_refusal, export_named, entry_name, element_refusal, bytes_refusal, link_refusal, least_of, first_pages, first_elements}
@@ -149,7 +149,7 @@ function_has_type m pages valid links index below = of_index (get_at (functions 
 
 -- the checks of a module that links, by the lists that they are of
 record Links (m : Module) (pages : ℕ) : Type 0 where
-  few : broken_unless FewPages (not (nat_lt pages (first_pages m))) ≡ None
+  few : broken_unless TooManyPages (not (nat_lt pages (first_pages m))) ≡ None
   segments : first_refused (bytes_refusal (first_pages m * page)) 0 m.segments ≡ None
 
 links_all : (m : Module) (pages : ℕ) → link_refusal m pages ≡ None → Links m pages
@@ -157,10 +157,10 @@ unfolding link_refusal
 links_all m pages links =
     let a = none_of_all (first_refused (import_refusal m.types) 0 m.imports) _ links in
     let b = none_of_all (told_at 0 (entry_refusal m (export_named entry_name m.exports))) _ a.1 in
-    let c = none_of_all (told_at 0 (broken_unless FewPages (not (nat_lt pages (first_pages m))))) _ b.1 in
+    let c = none_of_all (told_at 0 (broken_unless TooManyPages (not (nat_lt pages (first_pages m))))) _ b.1 in
     let d = none_of_all (first_refused (element_refusal (first_elements m)) 0 m.elements) _ c.1 in
     let e = none_of_all (first_refused (bytes_refusal (first_pages m * page)) 0 m.segments) _ d.1 in
-    record { few = not_told 0 (broken_unless FewPages (not (nat_lt pages (first_pages m)))) c.0; segments = e.0 }
+    record { few = not_told 0 (broken_unless TooManyPages (not (nat_lt pages (first_pages m)))) c.0; segments = e.0 }
 
 not_less : (a b : ℕ) → not (nat_lt a b) ≡ true → b ≤ a
 not_less a b e = by (nat_lt a b) refl e
@@ -207,7 +207,7 @@ pub first_within : (program : Program) → IsProgram program → MemoryWithin (m
 first_within program is =
     let m = program.linked in
     let l = links_all m program.pages is.links in
-    let few = not_less program.pages (first_pages m) (holds_unless FewPages (not (nat_lt program.pages (first_pages m))) l.few) in
+    let few = not_less program.pages (first_pages m) (holds_unless TooManyPages (not (nat_lt program.pages (first_pages m))) l.few) in
     let long = segments_length (first_pages m * page) m.segments 0 (zeros (first_pages m * page)) l.segments (length-replicate {A = ℕ} (first_pages m * page) 0) in
     let size : size_of (first_memory m) ≡ first_pages m = omega (arith, long) in
     let least = least_within program.pages m.memories (λ limits e. memory_limits m (walks m is.valid).memories_pass 0 limits e) few in

@@ -9,6 +9,7 @@ use Rattle.wasm_meaning.specs.Control.{Arguments, take_values, take_arguments}
 use Rattle.wasm_meaning.specs.Effects.{take_off as last_of, taken_over}
 use Rattle.wasm_meaning.specs.Execution.{kept, kept_one}
 use Rattle.wasm_meaning.specs.declared.violations.Rule.TheVariants.{OperandType}
+use Rattle.wasm_meaning.specs.Fitting.{AreOf, IsOne, Fit, Falls}
 use Rattle.wasm_meaning.specs.TypingOperands.{Walk, Operand, breaks, fits, exact, same_type, pull_from, pull, take_off, take_result, take_all, lay_result}
 use Rattle.wasm_meaning.specs.ValidityChecks.{go_on}
 use Rattle.wasm_meaning.specs.Values.{Value, Int32, Int64, type_of, value_of, number_in, number_of, has_type, zero_of}
@@ -54,13 +55,6 @@ same_types_equal I32 I32 e = refl
 same_types_equal I64 I64 e = refl
 same_types_equal I32 I64 e = let bad : ⊥ = cc in absurd bad
 same_types_equal I64 I32 e = let bad : ⊥ = cc in absurd bad
-
--- the values are of these types, one by one
-abbrev pub AreOf : List ValType → List Value → Type 0
-AreOf [] [] = Unit {0}
-AreOf [] (v ∷ vs) = ⊥
-AreOf (t ∷ ts) [] = ⊥
-AreOf (t ∷ ts) (v ∷ vs) = (has_type t v ≡ true) × AreOf ts vs
 
 pub record Found (t : ValType) (vs : List Value) (index : ℕ) : Type 0 where
   pub value : Value
@@ -111,21 +105,6 @@ zeros_are [] = tt
 zeros_are (t ∷ ts) = (has_value_of t 0, zeros_are ts)
 
 -- Operands.
-
--- a value stands where typing knows this; no value is of any type
-abbrev pub IsOne : Operand → Value → Type 0
-IsOne None v = ⊥
-IsOne (Some t) v = has_type t v ≡ true
-
-abbrev pub Fit : List Operand → List Value → Type 0
-Fit [] [] = Unit {0}
-Fit [] (v ∷ vs) = ⊥
-Fit (o ∷ os) [] = ⊥
-Fit (o ∷ os) (v ∷ vs) = IsOne o v × Fit os vs
-
--- the operands of the block at hand are those that typing knows, and the operator at hand is reached
-abbrev pub Falls : Walk → List Value → Type 0
-Falls now vs = (now.loose ≡ false) × Fit now.types vs
 
 pub record Pulled (now : Walk) (due : Operand) (p : Operand × Walk) (vs : List Value) : Type 0 where
   pub value : Value

@@ -1,37 +1,22 @@
 -- States that fit what typing knows, and what an operator's effect keeps of that.
-use Rattle.std.proofs.Common.{◌≡◌, ℕ, List, [], ◌∷◌, ◌++◌, length, map, Option, Some, Ok, slice_get, sym, subst}
+use Rattle.std.proofs.Common.{◌≡◌, ℕ, List, ◌∷◌, ◌++◌, length, Option, Some, Ok, slice_get, sym, subst}
 use Rattle.std.specs.Prelude.{option_to_list}
-use Rattle.wasm_ops.specs.Sequence.{Sequence, Done, Plain, InBlock, InLoop, InIf, InIfElse, IsPlain}
-use Rattle.wasm_ops.specs.WellFormed.{IsOperator}
 use Rattle.wasm_ops.specs.declared.modules.Module.{Module}
 use Rattle.wasm_ops.specs.declared.types.FuncType.{FuncType}
 use Rattle.wasm_ops.specs.declared.types.ValType.{ValType}
 use Rattle.wasm_meaning.specs.declared.blocks.BlockKind.TheVariants.{BlockBody}
-use Rattle.wasm_meaning.specs.declared.blocks.GlobalType.{GlobalType}
 use Rattle.wasm_meaning.specs.Control.{Arguments, take_arguments, Callee, Host, Defined, callee_at}
 use Rattle.wasm_meaning.specs.Effects.{Effect, Goes, Branches, Returns, Calls, Asks, Traps, Breaks}
+use Rattle.wasm_meaning.specs.Fitting.{AreOf, Falls, IsFair, inside, FrameFits, StoreFits}
 use Rattle.wasm_meaning.specs.HostCalls.{Gives, HostEffect, host_type}
-use Rattle.wasm_meaning.specs.State.{Function, Instance, Store, Frame, State}
+use Rattle.wasm_meaning.specs.State.{Function, Instance, State}
 use Rattle.wasm_meaning.specs.Typing.{Context, typed, ended}
 use Rattle.wasm_meaning.specs.TypingOperands.{Walk, start}
-use Rattle.wasm_meaning.specs.ValiditySpaces.{function_type, globals}
+use Rattle.wasm_meaning.specs.ValiditySpaces.{function_type}
 use Rattle.wasm_meaning.specs.Values.{Value, Int32}
-use Rattle.wasm_meaning.proofs.Fits.{AreOf, Falls, Keeps}
-
--- each operator that stands as plain is so, and its parts are what they may be in a body with so many targets
-abbrev pub IsFair : (targets : ℕ) → Sequence → Type 0
-IsFair targets Done = Unit {0}
-IsFair targets (Plain o rest) = IsPlain o × IsOperator targets o × IsFair targets rest
-IsFair targets (InBlock t body rest) = IsFair targets body × IsFair targets rest
-IsFair targets (InLoop t body rest) = IsFair targets body × IsFair targets rest
-IsFair targets (InIf t inner rest) = IsFair targets inner × IsFair targets rest
-IsFair targets (InIfElse t inner other rest) = IsFair targets inner × IsFair targets other × IsFair targets rest
+use Rattle.wasm_meaning.proofs.Fits.{Keeps}
 
 -- The instance.
-
--- what the rules speak of in a function
-abbrev pub inside : Module → Function → Context
-inside m f = record { whole = m; locals = f.params ++ f.locals; targets = f.targets; result = f.result; labels = f.result ∷ [] }
 
 -- a function of this type, whose body is typed
 pub record TypedFunction (m : Module) (type : FuncType) (f : Function) : Type 0 where
@@ -58,21 +43,6 @@ pub record InstanceFits (m : Module) (inst : Instance) : Type 0 where
   pub callees : (index : ℕ) (type : FuncType) → function_type m index ≡ Some type → CalleeAt m inst index type
 
 -- The state.
-
-pub record FrameFits (cx : Context) (frame : Frame) : Type 0 where
-  pub locals : AreOf cx.locals frame.locals
-  pub targets : frame.targets ≡ cx.targets
-
-abbrev pub types_of : List GlobalType → List ValType
-types_of gs = map (λ (g : GlobalType). g.value) gs
-
-pub record HasType (m : Module) (index : ℕ) : Type 0 where
-  pub type : FuncType
-  pub is : function_type m index ≡ Some type
-
-pub record StoreFits (m : Module) (store : Store) : Type 0 where
-  pub variables : AreOf (types_of (globals m)) store.globals
-  pub table : (place index : ℕ) → slice_get store.table place ≡ Some (Some index) → HasType m index
 
 pub record Ready (cx : Context) (st : State) : Type 0 where
   pub frame : FrameFits cx st.frame

@@ -17,6 +17,7 @@ use Rattle.wasm_meaning.specs.declared.violations.Rule.TheVariants.{UnknownIndex
 use Rattle.wasm_meaning.specs.declared.violations.Violation.{Violation}
 use Rattle.wasm_meaning.specs.Control.{branch_if as branches_if, branch_if_on, branch_if_of, branch_to, entry, branch_table as branches_by_table, branch_table_on, Callee, Host, Defined, callee_at, type_of_callee, Arguments, take_arguments, asks, calls, call_effect, same_types, same_results, same_function_type, calls_if, calls_found, calls_element, call_indirect_on, call_indirect_effect}
 use Rattle.wasm_meaning.specs.Effects.{Branches, Taken}
+use Rattle.wasm_meaning.specs.Fitting.{AreOf, Falls}
 use Rattle.wasm_meaning.specs.HostCalls.{host_type}
 use Rattle.wasm_meaning.specs.Operators.{effect}
 use Rattle.wasm_meaning.specs.State.{Instance, State, with_operands}
@@ -25,7 +26,7 @@ use Rattle.wasm_meaning.specs.TypingOperands.{same_type, Walk, known, holds, tak
 use Rattle.wasm_meaning.specs.ValidityChecks.{go_on}
 use Rattle.wasm_meaning.specs.ValiditySpaces.{function_type, globals}
 use Rattle.wasm_meaning.specs.Values.{Value, Int32, number_in}
-use Rattle.wasm_meaning.proofs.Fits.{went, AreOf, Falls, off, took_result, laid_result, took_arguments, same_types_equal}
+use Rattle.wasm_meaning.proofs.Fits.{went, off, took_result, laid_result, took_arguments, same_types_equal}
 use Rattle.wasm_meaning.proofs.Ready.{CalleeFits, InstanceFits, Ready, BranchFits, ReturnFits, EffectFits, told, with_others, goes_on}
 use Rattle.wasm_meaning.proofs.SafeOperators.{known_is, holds_is, same_walk, const_fits, unary_fits, binary_fits, drop_fits, select_fits, local_get_fits, local_set_fits, local_tee_fits, global_get_fits, global_set_fits, load_fits, store_fits, grow_fits}
 

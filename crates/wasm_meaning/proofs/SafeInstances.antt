@@ -19,6 +19,7 @@ use Rattle.wasm_meaning.specs.declared.blocks.BlockKind.TheVariants.{BlockBody}
 use Rattle.wasm_meaning.specs.declared.links.LinkRule.TheVariants.{ImportType}
 use Rattle.wasm_meaning.specs.declared.violations.Violation.{Violation}
 use Rattle.wasm_meaning.specs.Control.{Host, Defined, defined_callee, imported_or}
+use Rattle.wasm_meaning.specs.Fitting.{IsFair, HasType}
 use Rattle.wasm_meaning.specs.HostCalls.{host_type}
 use Rattle.wasm_meaning.specs.Linking.{first_refused, host_in, has_host_type, item_refusal, import_refusal, link_refusal}
 use Rattle.wasm_meaning.specs.Programs.{Program, IsProgram, function_of, or_bare, defined_from, defined, hosts, instance_of}
@@ -29,7 +30,7 @@ use Rattle.wasm_meaning.specs.Validity.{in_body, typed_in, body_walk, next_body,
 use Rattle.wasm_meaning.specs.ValiditySpaces.{as_function, imported, functions, count_imported, function_type, body_type}
 use Rattle.wasm_meaning.proofs.Fits.{went}
 use Rattle.wasm_meaning.proofs.ModuleFacts.{get_behind, get_past, get_at, is_within, all_at, all_front, all_rest, passes_both, each_checked, none_of_all, first_is_fine, holds_unless}
-use Rattle.wasm_meaning.proofs.Ready.{IsFair, TypedFunction, CalleeAt, HasType, InstanceFits}
+use Rattle.wasm_meaning.proofs.Ready.{TypedFunction, CalleeAt, InstanceFits}
 use Rattle.wasm_meaning.proofs.SafeControl.{function_types_equal}
 
 -- Bodies.

@@ -12,6 +12,7 @@ use Rattle.wasm_meaning.specs.declared.violations.Rule.{Rule}
 use Rattle.wasm_meaning.specs.declared.violations.Violation.{Violation}
 use Rattle.wasm_meaning.specs.Bytes.{loaded, stored, size_of, grown}
 use Rattle.wasm_meaning.specs.Effects.{Goes, Taken}
+use Rattle.wasm_meaning.specs.Fitting.{IsOne, Falls, types_of}
 use Rattle.wasm_meaning.specs.Memory.{load_effect, load_from, load_of, store_effect, store_from, store_to, store_of, grow_effect, grow_from, grow_of, widened}
 use Rattle.wasm_meaning.specs.Numeric.{unary_effect, unary_of, unary_on, binary_effect, binary_of, binary_on, binary_first, computed}
 use Rattle.wasm_meaning.specs.Parametric.{drop_effect, drop_from, select_effect, select_on, select_from, select_of, chosen}
@@ -23,8 +24,8 @@ use Rattle.wasm_meaning.specs.ValiditySpaces.{globals}
 use Rattle.wasm_meaning.specs.Values.{Value, Int32, Int64, type_of, value_of, number_in, has_type}
 use Rattle.wasm_meaning.specs.Variable.{local_get, local_set, local_set_from, local_tee, local_tee_from, sets_locals, global_get, global_set, global_set_from, sets_globals}
 use Rattle.wasm_meaning.specs.Effects.{gives as lays}
-use Rattle.wasm_meaning.proofs.Fits.{went, found, Replaces, replaces, IsOne, Falls, off, off_any, pulled, has_value_of}
-use Rattle.wasm_meaning.proofs.Ready.{Ready, EffectFits, types_of, told, goes_on}
+use Rattle.wasm_meaning.proofs.Fits.{went, found, Replaces, replaces, off, off_any, pulled, has_value_of}
+use Rattle.wasm_meaning.proofs.Ready.{Ready, EffectFits, told, goes_on}
 
 pub known_is : {A : Type 0} (rule : Rule) (now : Walk) (o : Option A) (x : A) → known rule now o ≡ Ok x → o ≡ Some x
 known_is rule now None x e = let bad : ⊥ = cc in absurd bad

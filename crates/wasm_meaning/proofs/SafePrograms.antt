@@ -20,6 +20,7 @@ use Rattle.wasm_meaning.specs.declared.links.LinkRule.TheVariants.{StartShape}
 use Rattle.wasm_meaning.specs.declared.violations.Rule.TheVariants.{UnknownIndex, StartType, ConstantType}
 use Rattle.wasm_meaning.specs.Control.{take_arguments}
 use Rattle.wasm_meaning.specs.Execution.{walk, exec}
+use Rattle.wasm_meaning.specs.Fitting.{AreOf, Falls, types_of, HasType, StoreFits}
 use Rattle.wasm_meaning.specs.Linking.{first_refused, import_refusal, item_refusal, host_in, told_at, takes_nothing, is_entry, entry_refusal, export_named, entry_name, link_refusal, first_elements}
 use Rattle.wasm_meaning.specs.Pending.{Entering, entering, enter, close_entry, close, outward}
 use Rattle.wasm_meaning.specs.Programs.{Program, IsProgram, defined, instance_of, first_global, laid, with_elements, first_table, fresh_store, fresh_state, body_number, start_body, entry_body, entries}
@@ -30,9 +31,9 @@ use Rattle.wasm_meaning.specs.TypingOperands.{start, same_type}
 use Rattle.wasm_meaning.specs.Validity.{is_unknown, are_known, function_rule, global_rule, is_bare, entered_rule, start_rule, element_rule, imports_walk, functions_walk, tables_walk, memories_walk, globals_walk, exports_walk, start_walk, elements_walk, segments_walk, bodies_walk, outside_walk, module_walk}
 use Rattle.wasm_meaning.specs.ValiditySpaces.{as_function, as_global, imported, functions, tables, globals, defined_global, count_imported, function_type}
 use Rattle.wasm_meaning.specs.Values.{Value, has_type}
-use Rattle.wasm_meaning.proofs.Fits.{AreOf, Falls, same_types_equal, has_value_of}
+use Rattle.wasm_meaning.proofs.Fits.{same_types_equal, has_value_of}
 use Rattle.wasm_meaning.proofs.ModuleFacts.{At, get_at, get_behind, all_at, all_joined, all_taken, all_dropped, and_both, not_false, below_of, is_less, passes_both, each_keeps, keeps_rule, no_rule, none_of_all, not_told, first_is_fine, holds_unless}
-use Rattle.wasm_meaning.proofs.Ready.{InstanceFits, StoreFits, HasType, GoFits, types_of}
+use Rattle.wasm_meaning.proofs.Ready.{InstanceFits, GoFits}
 use Rattle.wasm_meaning.proofs.SafeControl.{function_types_equal}
 use Rattle.wasm_meaning.proofs.SafeInstances.{DefinedAt, defined_at, imports_link, imported_has_type, instance_fits}
 use Rattle.wasm_meaning.proofs.SafeRuns.{RunFits, MayEnd, call_fits, exec_fits}

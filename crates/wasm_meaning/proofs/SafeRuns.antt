@@ -13,6 +13,7 @@ use Rattle.wasm_meaning.specs.declared.violations.Violation.{Violation}
 use Rattle.wasm_meaning.specs.Control.{Arguments, take_arguments}
 use Rattle.wasm_meaning.specs.Effects.{Effect, Goes, Branches, Returns, Calls, Asks, Traps, Breaks, Taken, take_i32}
 use Rattle.wasm_meaning.specs.Execution.{pay_if, pay, kept, with_result, close_block, close_loop, in_block, in_loop, choose_by, choose, has_room, Caller, caller_of, entered, left_call, leave_call, close_call, call_within, call_with, call, after_host, answered, act, walk, exec, nothing_left}
+use Rattle.wasm_meaning.specs.Fitting.{AreOf, Fit, Falls, IsFair, inside}
 use Rattle.wasm_meaning.specs.HostCalls.{HostAnswer, Gives, Exits, HostEffect}
 use Rattle.wasm_meaning.specs.Operators.{effect, price_of, unit}
 use Rattle.wasm_meaning.specs.State.{Function, Instance, State, Outcome, Fell, Branched, Returned, Trapped, Exited, Spent, Stuck, Run, Go, Runner, Next, after, with_operands}
@@ -20,8 +21,8 @@ use Rattle.wasm_meaning.specs.Typing.{Context, plain, next as past, enter, label
 use Rattle.wasm_meaning.specs.TypingOperands.{Walk, Operand, breaks, take_off, take_result, lay_result, start}
 use Rattle.wasm_meaning.specs.ValidityChecks.{go_on}
 use Rattle.wasm_meaning.specs.Values.{Value, Int32, zero_of, number_in}
-use Rattle.wasm_meaning.proofs.Fits.{went, AreOf, append_are, zeros_are, Fit, Falls, off, Keeps, keeps_all, took_result, laid_result}
-use Rattle.wasm_meaning.proofs.Ready.{IsFair, inside, TypedFunction, InstanceFits, Ready, BranchFits, ReturnFits, AskFits, GoFits, EffectFits}
+use Rattle.wasm_meaning.proofs.Fits.{went, append_are, zeros_are, off, Keeps, keeps_all, took_result, laid_result}
+use Rattle.wasm_meaning.proofs.Ready.{TypedFunction, InstanceFits, Ready, BranchFits, ReturnFits, AskFits, GoFits, EffectFits}
 use Rattle.wasm_meaning.proofs.SafeOperators.{same_walk}
 use Rattle.wasm_meaning.proofs.SafeControl.{plain_fits}
 

@@ -2,6 +2,7 @@ pub mod Bytes
 pub mod Control
 pub mod Effects
 pub mod Execution
+pub mod Fitting
 pub mod HostCalls
 pub mod Laws
 pub mod LinkRules

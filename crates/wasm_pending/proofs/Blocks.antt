@@ -5,6 +5,7 @@ use Rattle.wasm_ops.specs.Values.{IsOfType}
 use Rattle.wasm_ops.specs.declared.types.ValType.{ValType}
 use Rattle.wasm_ops.specs.declared.types.ValType.TheVariants.{I32}
 use Rattle.wasm_meaning.specs.declared.blocks.BlockKind.TheVariants.{BlockBody, LoopBody, ThenBranch, ElseBranch}
+use Rattle.wasm_meaning.specs.Fitting.{Fit, Falls, IsFair}
 use Rattle.wasm_meaning.specs.Pending.{Around, AroundBlock, AroundLoop}
 use Rattle.wasm_meaning.specs.Programs.{Program, defined}
 use Rattle.wasm_meaning.specs.State.{Function, State, with_operands}
@@ -12,8 +13,7 @@ use Rattle.wasm_meaning.specs.Typing.{typed, depth, next, enter, within, ended, 
 use Rattle.wasm_meaning.specs.TypingOperands.{Walk, Operand, take_off, lay_result}
 use Rattle.wasm_meaning.specs.ValidityChecks.{go_on}
 use Rattle.wasm_meaning.specs.Values.{Value, Int32, Int64, has_type, number_in}
-use Rattle.wasm_meaning.proofs.Fits.{went, Fit, Falls, off}
-use Rattle.wasm_meaning.proofs.Ready.{IsFair}
+use Rattle.wasm_meaning.proofs.Fits.{went, off}
 use Rattle.wasm_pending.proofs.Grows.{ended_same, take_off_same, typed_grows}
 use Rattle.wasm_pending.proofs.Walks.{same_walk, fit_length, placed_behind, ended_are, join_ranged}
 use Rattle.wasm_pending.specs.Frames.{in_frame, open_in, context}

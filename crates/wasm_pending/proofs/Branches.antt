@@ -8,13 +8,14 @@ use Rattle.wasm_ops.specs.declared.types.ValType.{ValType}
 use Rattle.wasm_meaning.specs.declared.blocks.BlockKind.TheVariants.{BlockBody}
 use Rattle.wasm_meaning.specs.Effects.{Branches, Returns}
 use Rattle.wasm_meaning.specs.Execution.{Caller, left_call}
+use Rattle.wasm_meaning.specs.Fitting.{AreOf, Falls}
 use Rattle.wasm_meaning.specs.Operators.{effect}
 use Rattle.wasm_meaning.specs.Pending.{Around, AroundBlock, AroundLoop, AroundCall, Entering}
 use Rattle.wasm_meaning.specs.Programs.{Program, IsProgram, instance_of, defined}
 use Rattle.wasm_meaning.specs.State.{Function, Frame, Store, State, with_operands}
 use Rattle.wasm_meaning.specs.TypingOperands.{Walk}
 use Rattle.wasm_meaning.specs.Values.{Value}
-use Rattle.wasm_meaning.proofs.Fits.{AreOf, Falls, Keeps, keeps_all}
+use Rattle.wasm_meaning.proofs.Fits.{Keeps, keeps_all}
 use Rattle.wasm_pending.proofs.Plains.{fits_as, keeps_as}
 use Rattle.wasm_pending.proofs.Walks.{same_walk, join_ranged, kept_ranged, placed_behind, ended_are}
 use Rattle.wasm_pending.specs.Frames.{open_in, labels_in}

@@ -6,6 +6,7 @@ use Rattle.wasm_ops.specs.declared.types.ValType.{ValType}
 use Rattle.wasm_meaning.specs.Control.{Arguments, take_arguments}
 use Rattle.wasm_meaning.specs.Effects.{Calls}
 use Rattle.wasm_meaning.specs.Execution.{caller_of}
+use Rattle.wasm_meaning.specs.Fitting.{AreOf}
 use Rattle.wasm_meaning.specs.Operators.{effect}
 use Rattle.wasm_meaning.specs.Pending.{Around, Entering}
 use Rattle.wasm_meaning.specs.Programs.{Program, IsProgram, instance_of, defined}
@@ -13,7 +14,7 @@ use Rattle.wasm_meaning.specs.State.{Function, Frame, Store, State}
 use Rattle.wasm_meaning.specs.Typing.{next}
 use Rattle.wasm_meaning.specs.TypingOperands.{start}
 use Rattle.wasm_meaning.specs.Values.{zero_of}
-use Rattle.wasm_meaning.proofs.Fits.{AreOf, append_are, zeros_are, given_some}
+use Rattle.wasm_meaning.proofs.Fits.{append_are, zeros_are, given_some}
 use Rattle.wasm_pending.proofs.Effects.{arguments_ranged}
 use Rattle.wasm_pending.proofs.Functions.{measured}
 use Rattle.wasm_pending.proofs.Plains.{at_operator, fits_as, keeps_as}

@@ -20,16 +20,16 @@ use Rattle.wasm_meaning.specs.declared.blocks.GlobalType.{GlobalType}
 use Rattle.wasm_meaning.specs.declared.links.LinkRule.TheVariants.{SegmentRange, TooManyPages}
 use Rattle.wasm_meaning.specs.declared.violations.Rule.TheVariants.{UnknownIndex, ConstantType, TwoMemories, MemoryLimits}
 use Rattle.wasm_meaning.specs.Bytes.{page, zeros, with_bytes, size_of}
+use Rattle.wasm_meaning.specs.Fitting.{AreOf, types_of, HasType}
 use Rattle.wasm_meaning.specs.Linking.{first_refused, import_refusal, item_refusal, host_in, told_at, broken_unless, entry_refusal, export_named, entry_name, element_refusal, bytes_refusal, link_refusal, least_of, first_pages, first_elements}
 use Rattle.wasm_meaning.specs.Programs.{Program, IsProgram, limited_to, greatest, most, first_global, with_segments, first_memory, laid, with_elements, first_table, fresh_store, first}
 use Rattle.wasm_meaning.specs.Validity.{is_unknown, are_known, is_above, exceeds, most_pages, function_rule, memory_rule, global_rule, element_rule, has_memory, functions_walk, memories_walk, globals_walk, elements_walk, module_walk}
 use Rattle.wasm_meaning.specs.TypingOperands.{same_type}
 use Rattle.wasm_meaning.specs.ValiditySpaces.{as_function, as_global, imported, functions, tables, globals, defined_global, count_imported}
 use Rattle.wasm_meaning.specs.Values.{value_of, has_type}
-use Rattle.wasm_meaning.proofs.Fits.{AreOf, same_types_equal, has_value_of}
+use Rattle.wasm_meaning.proofs.Fits.{same_types_equal, has_value_of}
 use Rattle.wasm_meaning.proofs.MemoryLaws.{length-with_bytes}
 use Rattle.wasm_meaning.proofs.ModuleFacts.{At, get_at, get_behind, all_at, all_joined, all_taken, all_dropped, and_both, not_false, below_of, is_less, each_keeps, keeps_rule, none_of_all, not_told, first_is_fine, holds_unless}
-use Rattle.wasm_meaning.proofs.Ready.{HasType, types_of}
 use Rattle.wasm_meaning.proofs.SafeInstances.{imports_link, imported_has_type}
 use Rattle.wasm_pending.proofs.Entries.{walks, entries_enter}
 use Rattle.wasm_pending.specs.Typed.{IsRanged, AreRanged, MemoryWithin, StoreTyped, Idle}

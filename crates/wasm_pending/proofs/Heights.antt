@@ -5,13 +5,14 @@ use Rattle.wasm_ops.specs.Sequence.{Sequence}
 use Rattle.wasm_ops.specs.declared.modules.Module.{Module}
 use Rattle.wasm_ops.specs.declared.types.ValType.{ValType}
 use Rattle.wasm_meaning.specs.Execution.{Caller}
+use Rattle.wasm_meaning.specs.Fitting.{AreOf}
 use Rattle.wasm_meaning.specs.Pending.{Around, AroundBlock, AroundLoop, AroundCall, Entering, Pending}
 use Rattle.wasm_meaning.specs.Programs.{Program}
 use Rattle.wasm_meaning.specs.State.{Function}
 use Rattle.wasm_meaning.specs.Typing.{back}
 use Rattle.wasm_meaning.specs.TypingOperands.{Walk}
 use Rattle.wasm_meaning.specs.Values.{Value, zero_of}
-use Rattle.wasm_meaning.proofs.Fits.{AreOf, has_value_of}
+use Rattle.wasm_meaning.proofs.Fits.{has_value_of}
 use Rattle.wasm_pending.proofs.Grows.{lay_result_same, typed_grows}
 use Rattle.wasm_pending.proofs.Walks.{fit_length}
 use Rattle.wasm_pending.specs.Frames.{in_frame, open_in, calls_in, context}

@@ -10,6 +10,7 @@ use Rattle.wasm_meaning.specs.declared.blocks.BlockKind.{BlockKind}
 use Rattle.wasm_meaning.specs.declared.violations.Rule.TheVariants.{IfWithoutElse}
 use Rattle.wasm_meaning.specs.declared.violations.Violation.{Violation}
 use Rattle.wasm_meaning.specs.Execution.{kept, kept_one}
+use Rattle.wasm_meaning.specs.Fitting.{AreOf, Fit, Falls, FrameFits}
 use Rattle.wasm_meaning.specs.Pending.{Around}
 use Rattle.wasm_meaning.specs.Programs.{Program}
 use Rattle.wasm_meaning.specs.State.{Function, Frame, State}
@@ -17,8 +18,8 @@ use Rattle.wasm_meaning.specs.Typing.{typed, next, back, lacks_else, emptied_of,
 use Rattle.wasm_meaning.specs.TypingOperands.{Walk, Operand, breaks, take_result, lay_result}
 use Rattle.wasm_meaning.specs.ValidityChecks.{go_on}
 use Rattle.wasm_meaning.specs.Values.{Value, has_type, zero_of}
-use Rattle.wasm_meaning.proofs.Fits.{went, AreOf, Fit, Falls, took_result, laid_result}
-use Rattle.wasm_meaning.proofs.Ready.{FrameFits, Ready}
+use Rattle.wasm_meaning.proofs.Fits.{went, took_result, laid_result}
+use Rattle.wasm_meaning.proofs.Ready.{Ready}
 use Rattle.wasm_pending.proofs.Grows.{lay_result_same}
 use Rattle.wasm_pending.specs.Frames.{in_frame, context}
 use Rattle.wasm_pending.specs.Typed.{IsRanged, AreRanged, StoreTyped, FrameTyped, Placed, behind_block, SequenceTyped}

@@ -2,10 +2,10 @@
 use Rattle.std.specs.Prelude.{ℕ, ◌+◌, List, [], ◌∷◌, length, Option, None}
 use Rattle.wasm_ops.specs.declared.modules.Module.{Module}
 use Rattle.wasm_ops.specs.declared.types.ValType.{ValType}
+use Rattle.wasm_meaning.specs.Fitting.{inside}
 use Rattle.wasm_meaning.specs.Pending.{Around, AroundBlock, AroundLoop, AroundCall, Entering}
 use Rattle.wasm_meaning.specs.State.{Function}
 use Rattle.wasm_meaning.specs.Typing.{Context}
-use Rattle.wasm_meaning.proofs.Ready.{inside}
 
 -- how many operands lie under the block at hand, in the frame of the same call
 abbrev pub in_frame : List Around → ℕ

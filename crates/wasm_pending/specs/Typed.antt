@@ -1,4 +1,4 @@
--- What is pending is typed, and keeps within its heights: what typing knows of each sequence that is still to run, from the inside outwards.
+-- What is pending is typed, and keeps within its heights: what typing knows of each sequence that is still to run, from the inside outwards (WebAssembly Core 1.0, appendix A.5).
 use Rattle.std.specs.Prelude.{◌≡◌, ◌⊎◌, ℕ, ◌+◌, ◌*◌, ◌≤◌, List, [], ◌∷◌, ◌++◌, length, Option, None, Some, Ok, slice_get, option_to_list}
 use Rattle.std.specs.List.{AllByRecursion}
 use Rattle.wasm_ops.specs.Sequence.{Sequence, Done, InLoop}
@@ -8,14 +8,13 @@ use Rattle.wasm_ops.specs.declared.types.ValType.{ValType}
 use Rattle.wasm_meaning.specs.declared.blocks.BlockKind.TheVariants.{BlockBody, LoopBody}
 use Rattle.wasm_meaning.specs.Bytes.{page, size_of}
 use Rattle.wasm_meaning.specs.Execution.{Caller}
+use Rattle.wasm_meaning.specs.Fitting.{AreOf, Falls, IsFair, inside, FrameFits, StoreFits}
 use Rattle.wasm_meaning.specs.Pending.{Around, AroundBlock, AroundLoop, AroundCall, Entering, Pending}
 use Rattle.wasm_meaning.specs.Programs.{Program, defined, most}
 use Rattle.wasm_meaning.specs.State.{Function, Frame, Store}
 use Rattle.wasm_meaning.specs.Typing.{typed, depth, next, back, ended}
 use Rattle.wasm_meaning.specs.TypingOperands.{Walk, lay_result}
 use Rattle.wasm_meaning.specs.Values.{Value, type_of, number_in}
-use Rattle.wasm_meaning.proofs.Fits.{AreOf, Falls}
-use Rattle.wasm_meaning.proofs.Ready.{IsFair, inside, FrameFits, StoreFits}
 use Rattle.wasm_pending.specs.Frames.{in_frame, open_in, context}
 
 -- Values.

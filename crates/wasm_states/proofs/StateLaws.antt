@@ -7,11 +7,11 @@ use Rattle.wasm_ops.specs.declared.operators.Op.TheVariants.{End}
 use Rattle.wasm_ops.specs.declared.types.ValType.{ValType}
 use Rattle.wasm_ops.specs.Sequence.{Sequence, Plain, IsPlain, size}
 use Rattle.wasm_meaning.specs.Execution.{Caller, cells_of}
+use Rattle.wasm_meaning.specs.Fitting.{AreOf}
 use Rattle.wasm_meaning.specs.Pending.{Around, AroundCall, Pending}
 use Rattle.wasm_meaning.specs.Programs.{Program, defined}
 use Rattle.wasm_meaning.specs.State.{Function, State, Outcome}
 use Rattle.wasm_meaning.specs.Values.{Value, numbers}
-use Rattle.wasm_meaning.proofs.Fits.{AreOf}
 use Rattle.wasm_pending.specs.Frames.{in_frame, open_in}
 use Rattle.wasm_pending.specs.Steps.{pending_at}
 use Rattle.wasm_pending.proofs.Heights.{operands_within, opened_within}

@@ -6,11 +6,11 @@ use Rattle.wasm_ops.specs.declared.modules.Module.{Module}
 use Rattle.wasm_ops.specs.declared.types.FuncType.{FuncType}
 use Rattle.wasm_ops.specs.declared.types.ValType.{ValType}
 use Rattle.wasm_ops.specs.declared.types.ValType.TheVariants.{I32, I64}
-use Rattle.wasm_meaning.specs.Control.{Callee, Host, Defined, callee_at, imported_or, defined_callee, type_of_callee, same_types, same_results, same_function_type}
+use Rattle.wasm_meaning.specs.Control.{Callee, Host, Defined, callee_at, imported_or, defined_callee, type_of_callee, same_types, same_function_type}
 use Rattle.wasm_meaning.specs.HostCalls.{host_type}
 use Rattle.wasm_meaning.specs.Programs.{Program, IsProgram, defined, hosts, instance_of}
 use Rattle.wasm_meaning.specs.State.{Function}
-use Rattle.wasm_meaning.specs.TypingOperands.{same_type}
+use Rattle.wasm_meaning.specs.TypingOperands.{same_type, same_result}
 use Rattle.wasm_meaning.specs.ValiditySpaces.{functions, count_imported, function_type, body_type}
 use Rattle.wasm_meaning.proofs.ModuleFacts.{get_at, get_past}
 use Rattle.wasm_meaning.proofs.Ready.{CalleeFits}
@@ -33,12 +33,12 @@ same_values : (ts : List ValType) → same_types ts ts ≡ true
 same_values [] = refl
 same_values (t ∷ ts) = both (same_type t t) (same_types ts ts) (same_value t) (same_values ts)
 
-same_outcome : (t : Option ValType) → same_results t t ≡ true
+same_outcome : (t : Option ValType) → same_result t t ≡ true
 same_outcome None = refl
 same_outcome (Some t) = same_value t
 
 itself : (t : FuncType) → same_function_type t t ≡ true
-itself t = both (same_types t.params t.params) (same_results t.result t.result) (same_values t.params) (same_outcome t.result)
+itself t = both (same_types t.params t.params) (same_result t.result t.result) (same_values t.params) (same_outcome t.result)
 
 decided : (t u : FuncType) → Decides (same_function_type t u) (t ≡ u)
 decided t u = (function_types_equal t u, λ e. subst (λ (v : FuncType). same_function_type t v ≡ true) e (itself t))

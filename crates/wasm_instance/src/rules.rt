@@ -1,6 +1,7 @@
 //! The rule of linking that an item breaks, if it breaks one (WebAssembly Core 1.0, sections 4.5.2 and 4.5.4, and WASI preview1).
 ghost use Rattle.std.specs.Prelude.{◌≡◌, ◌+◌, nat_lt, Some, length, option_copied};
-ghost use Rattle.wasm_meaning.specs.Linking.{host_named, host_in, has_host_type as has_host_type_due, host_refusal as host_due, item_refusal as item_due, import_refusal as import_due, takes_nothing as takes_nothing_due, is_entry as is_entry_due, entry_refusal as entry_due, element_refusal as element_due, bytes_refusal as bytes_due};
+ghost use Rattle.wasm_meaning.specs.Validity.{is_bare as is_bare_due};
+ghost use Rattle.wasm_meaning.specs.Linking.{host_named, host_in, has_host_type as has_host_type_due, host_refusal as host_due, item_refusal as item_due, import_refusal as import_due, is_entry as is_entry_due, entry_refusal as entry_due, element_refusal as element_due, bytes_refusal as bytes_due};
 
 use wasm_meaning::LinkRule;
 use wasm_ops::{
@@ -73,8 +74,9 @@ pub(crate) fn import_refusal(types: &Items<FuncType>, import: &Import) -> Option
     }
 }
 
-fn takes_nothing(function: &FuncType) -> bool
-    ensures { result ≡ takes_nothing_due function.now }
+/// Whether a function takes and gives nothing.
+fn is_bare(function: &FuncType) -> bool
+    ensures { result ≡ is_bare_due function.now }
 {
     function.params.as_slice().is_empty() && function.result.is_none()
 }
@@ -86,7 +88,7 @@ fn is_entry(valid: &Valid, export: &Export) -> bool
         return false;
     }
     match valid.function_type(export.index) {
-        Some(function) => takes_nothing(function),
+        Some(function) => is_bare(function),
         None => false,
     }
 }

@@ -1,12 +1,15 @@
 -- What follows for each item of a module from the walk that finds it valid, and from linking.
-use Rattle.std.proofs.Common.{◌≡◌, ℕ, zero, suc, ◌+◌, ◌<◌, ◌≤◌, Bool, true, false, not, ◌&&◌, nat_lt, nat_le, List, [], ◌∷◌, ◌++◌, length, take, drop, Option, Some, None, Ok, Err, slice_get, refl, ap, subst, ◌∙◌, arith, length-append}
+use Rattle.std.proofs.Common.{◌≡◌, ℕ, zero, suc, ◌+◌, ◌<◌, ◌≤◌, ◌==◌, Bool, true, false, not, ◌&&◌, nat_lt, nat_le, List, [], ◌∷◌, ◌++◌, length, take, drop, Option, Some, None, Ok, Err, slice_get, is_some, refl, ap, subst, ◌∙◌, arith, length-append}
 use Rattle.std.proofs.lemmas.Bool.Decides.{nat_tests}
 use Rattle.std.specs.List.{AllByRecursion}
+use Rattle.wasm_ops.specs.declared.types.FuncType.{FuncType}
+use Rattle.wasm_ops.specs.declared.types.ValType.{ValType}
 use Rattle.wasm_meaning.specs.declared.links.LinkRule.{LinkRule}
 use Rattle.wasm_meaning.specs.declared.links.Unlinked.{Unlinked}
 use Rattle.wasm_meaning.specs.declared.violations.Rule.{Rule}
 use Rattle.wasm_meaning.specs.Linking.{first_of_all, told_at, first_refused, broken_unless}
 use Rattle.wasm_meaning.proofs.Fits.{went}
+use Rattle.wasm_meaning.specs.Validity.{is_bare}
 use Rattle.wasm_meaning.specs.ValidityChecks.{Check, in_order, each_behind, first_rule, broken_at, each_item}
 
 -- Places in lists.
@@ -151,3 +154,20 @@ first_is_fine refuses at x xs e =
 pub holds_unless : (number : LinkRule) (b : Bool) → broken_unless number b ≡ None → b ≡ true
 holds_unless number true e = refl
 holds_unless number false e = let bad : ⊥ = cc in absurd bad
+
+-- Functions that take and give nothing.
+
+is_zero : (n : ℕ) → n == 0 ≡ true → n ≡ 0
+is_zero n e = grind (arith, nat_tests)
+
+pub nothing_taken : (t : FuncType) → is_bare t ≡ true → t ≡ record { params = []; result = None }
+nothing_taken t e = by t.params t.result (and_both (length t.params == 0) (not (is_some t.result)) e)
+  where
+    by
+        : (ps : List ValType) (r : Option ValType) → (length ps == 0 ≡ true) × (not (is_some r) ≡ true)
+        → ◌≡◌ {A = FuncType} (record { params = ps; result = r }) (record { params = []; result = None })
+    by [] None both = refl
+    by [] (Some r) both = let has = both.1 in let bad : ⊥ = cc in absurd bad
+    by (p ∷ ps) r both =
+        let none = is_zero (suc (length ps)) both.0 in
+        let bad : ⊥ = omega (arith, none) in absurd bad

@@ -15,14 +15,14 @@ use Rattle.wasm_ops.specs.declared.types.ValType.{ValType}
 use Rattle.wasm_ops.specs.declared.types.ValType.TheVariants.{I32, I64}
 use Rattle.wasm_meaning.specs.declared.violations.Rule.TheVariants.{UnknownIndex, LabelDepth, BranchTypes}
 use Rattle.wasm_meaning.specs.declared.violations.Violation.{Violation}
-use Rattle.wasm_meaning.specs.Control.{branch_if as branches_if, branch_if_on, branch_if_of, branch_to, entry, branch_table as branches_by_table, branch_table_on, Callee, Host, Defined, callee_at, type_of_callee, Arguments, take_arguments, asks, calls, call_effect, same_types, same_results, same_function_type, calls_if, calls_found, calls_element, call_indirect_on, call_indirect_effect}
+use Rattle.wasm_meaning.specs.Control.{branch_if as branches_if, branch_if_on, branch_if_of, branch_to, entry, branch_table as branches_by_table, branch_table_on, Callee, Host, Defined, callee_at, type_of_callee, Arguments, take_arguments, asks, calls, call_effect, same_types, same_function_type, calls_if, calls_found, calls_element, call_indirect_on, call_indirect_effect}
 use Rattle.wasm_meaning.specs.Effects.{Branches, Taken}
 use Rattle.wasm_meaning.specs.Fitting.{AreOf, Falls}
 use Rattle.wasm_meaning.specs.HostCalls.{host_type}
 use Rattle.wasm_meaning.specs.Operators.{effect}
 use Rattle.wasm_meaning.specs.State.{Instance, State, with_operands}
-use Rattle.wasm_meaning.specs.Typing.{Context, with_table, with_memory as has_memory, call, call_indirect, set_global, same_result, is_label, takes, agrees, branch_table, plain}
-use Rattle.wasm_meaning.specs.TypingOperands.{same_type, Walk, known, holds, take_off, take_result, take_all, lay_result, cut, gives, unary, branch, keep_result, branch_if}
+use Rattle.wasm_meaning.specs.Typing.{Context, with_table, with_memory as has_memory, call, call_indirect, set_global, is_label, takes, agrees, branch_table, plain}
+use Rattle.wasm_meaning.specs.TypingOperands.{same_type, same_result, Walk, known, holds, take_off, take_result, take_all, lay_result, cut, gives, unary, branch, keep_result, branch_if}
 use Rattle.wasm_meaning.specs.ValidityChecks.{go_on}
 use Rattle.wasm_meaning.specs.ValiditySpaces.{function_type, globals}
 use Rattle.wasm_meaning.specs.Values.{Value, Int32, number_in}
@@ -64,16 +64,10 @@ lists_equal (t ∷ ts) (u ∷ us) e =
     let both = both_true (same_type t u) (same_types ts us) e in
     ap (λ (x : ValType). x ∷ ts) (same_types_equal t u both.0) ∙ ap (λ (xs : List ValType). u ∷ xs) (lists_equal ts us both.1)
 
-outcomes_equal : (t u : Option ValType) → same_results t u ≡ true → t ≡ u
-outcomes_equal None None e = refl
-outcomes_equal (Some t) (Some u) e = ap (λ (x : ValType). Some x) (same_types_equal t u e)
-outcomes_equal None (Some u) e = let bad : ⊥ = cc in absurd bad
-outcomes_equal (Some t) None e = let bad : ⊥ = cc in absurd bad
-
 pub function_types_equal : (t u : FuncType) → same_function_type t u ≡ true → t ≡ u
 function_types_equal t u e =
-    let both = both_true (same_types t.params u.params) (same_results t.result u.result) e in
-    made t.params t.result u.params u.result (lists_equal t.params u.params both.0) (outcomes_equal t.result u.result both.1)
+    let both = both_true (same_types t.params u.params) (same_result t.result u.result) e in
+    made t.params t.result u.params u.result (lists_equal t.params u.params both.0) (same_results_equal t.result u.result both.1)
   where
     made : (ps : List ValType) (r : Option ValType) (qs : List ValType) (s : Option ValType) → ps ≡ qs → r ≡ s
         → ◌≡◌ {A = FuncType} (record { params = ps; result = r }) (record { params = qs; result = s })

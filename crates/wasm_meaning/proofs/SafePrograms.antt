@@ -1,5 +1,5 @@
 -- The run of a program never gets stuck: its fresh state fits what typing knows, and each entry is typed.
-use Rattle.std.proofs.Common.{◌≡◌, ℕ, zero, suc, ◌+◌, ◌-◌, ◌<◌, ◌≤◌, ◌==◌, Bool, true, false, cond, not, nat_lt, List, [], ◌∷◌, ◌++◌, length, map, take, drop, replicate, Option, Some, None, Ok, slice_get, is_some, refl, sym, ap, subst, ◌∙◌, option_and_then, option_map, option_to_list, arith}
+use Rattle.std.proofs.Common.{◌≡◌, ℕ, zero, suc, ◌+◌, ◌-◌, ◌<◌, ◌≤◌, ◌==◌, Bool, true, false, cond, not, nat_lt, List, [], ◌∷◌, ◌++◌, length, map, take, drop, replicate, Option, Some, None, Ok, slice_get, refl, sym, ap, subst, ◌∙◌, option_and_then, option_map, option_to_list, arith}
 use Rattle.std.proofs.lemmas.Bool.Decides.{nat_tests}
 use Rattle.std.specs.List.{AllByRecursion, list_all, cons_option}
 use Rattle.std.specs.Prelude.{unwrap_or}
@@ -21,7 +21,7 @@ use Rattle.wasm_meaning.specs.declared.violations.Rule.TheVariants.{UnknownIndex
 use Rattle.wasm_meaning.specs.Control.{take_arguments}
 use Rattle.wasm_meaning.specs.Execution.{walk, exec}
 use Rattle.wasm_meaning.specs.Fitting.{AreOf, Falls, types_of, HasType, StoreFits}
-use Rattle.wasm_meaning.specs.Linking.{first_refused, import_refusal, item_refusal, host_in, told_at, takes_nothing, is_entry, entry_refusal, export_named, entry_name, link_refusal, first_elements}
+use Rattle.wasm_meaning.specs.Linking.{first_refused, import_refusal, item_refusal, host_in, told_at, is_entry, entry_refusal, export_named, entry_name, link_refusal, first_elements}
 use Rattle.wasm_meaning.specs.Pending.{Entering, entering, enter, close_entry, close, outward}
 use Rattle.wasm_meaning.specs.Programs.{Program, IsProgram, defined, instance_of, first_global, laid, with_elements, first_table, fresh_store, fresh_state, body_number, start_body, entry_body, entries}
 use Rattle.wasm_meaning.specs.Requests.{Request, Verdict, Replied, Exit, Trap, BudgetSpent, run_of, concluded, verdict}
@@ -32,9 +32,8 @@ use Rattle.wasm_meaning.specs.Validity.{is_unknown, are_known, function_rule, gl
 use Rattle.wasm_meaning.specs.ValiditySpaces.{as_function, as_global, imported, functions, tables, globals, defined_global, count_imported, function_type}
 use Rattle.wasm_meaning.specs.Values.{Value, has_type}
 use Rattle.wasm_meaning.proofs.Fits.{same_types_equal, has_value_of}
-use Rattle.wasm_meaning.proofs.ModuleFacts.{At, get_at, get_behind, all_at, all_joined, all_taken, all_dropped, and_both, not_false, below_of, is_less, passes_both, each_keeps, keeps_rule, no_rule, none_of_all, not_told, first_is_fine, holds_unless}
+use Rattle.wasm_meaning.proofs.ModuleFacts.{At, get_at, get_behind, all_at, all_joined, all_taken, all_dropped, and_both, not_false, below_of, is_less, passes_both, each_keeps, keeps_rule, no_rule, none_of_all, not_told, first_is_fine, holds_unless, nothing_taken}
 use Rattle.wasm_meaning.proofs.Ready.{InstanceFits, GoFits}
-use Rattle.wasm_meaning.proofs.SafeControl.{function_types_equal}
 use Rattle.wasm_meaning.proofs.SafeInstances.{DefinedAt, defined_at, imports_link, imported_has_type, instance_fits}
 use Rattle.wasm_meaning.proofs.SafeRuns.{RunFits, MayEnd, call_fits, exec_fits}
 
@@ -201,21 +200,6 @@ bare_entry m formed valid index is = by (nat_lt index (count_imported m)) refl
         let place : count_imported m + (index - count_imported m) ≡ index = omega (arith, le) in
         (record { at = defined_at m formed valid (index - count_imported m) _ (ap (λ (k : ℕ). function_type m k) place ∙ is) }, tt)
 
-is_zero : (n : ℕ) → n == 0 ≡ true → n ≡ 0
-is_zero n e = grind (arith, nat_tests)
-
-nothing_taken : (t : FuncType) → is_bare t ≡ true → t ≡ record { params = []; result = None }
-nothing_taken t e = by t.params t.result (and_both (length t.params == 0) (not (is_some t.result)) e)
-  where
-    by
-        : (ps : List ValType) (r : Option ValType) → (length ps == 0 ≡ true) × (not (is_some r) ≡ true)
-        → ◌≡◌ {A = FuncType} (record { params = ps; result = r }) (record { params = []; result = None })
-    by [] None both = refl
-    by [] (Some r) both = let has = both.1 in let bad : ⊥ = cc in absurd bad
-    by (p ∷ ps) r both =
-        let none = is_zero (suc (length ps)) both.0 in
-        let bad : ⊥ = omega (arith, none) in absurd bad
-
 start_is_fine : (m : Module) → start_walk m ≡ Ok tt → start_rule m m.start ≡ None
 unfolding start_walk
 start_is_fine m passes = no_rule 0 (start_rule m m.start) passes
@@ -242,18 +226,17 @@ entry_is_fine m pages links =
 entry_fits : (m : Module) (pages : ℕ) → IsWellFormed m → module_walk m ≡ Ok tt → link_refusal m pages ≡ None → AllByRecursion (EntryFits m) (option_to_list (entry_body m))
 entry_fits m pages formed valid links = by (export_named entry_name m.exports) (entry_is_fine m pages links)
   where
-    typed_entry : (index : ℕ) (o : Option FuncType) → function_type m index ≡ o → unwrap_or (option_map takes_nothing o) false ≡ true → AllByRecursion (EntryFits m) (option_to_list (body_number m index))
+    typed_entry : (index : ℕ) (o : Option FuncType) → function_type m index ≡ o → unwrap_or (option_map is_bare o) false ≡ true → AllByRecursion (EntryFits m) (option_to_list (body_number m index))
     typed_entry index None is e = let bad : ⊥ = cc in absurd bad
     typed_entry index (Some t) is e =
-        let same = function_types_equal (record { params = []; result = None }) t e in
-        bare_entry m formed valid index (is ∙ ap (λ (u : FuncType). Some u) (sym same))
+        bare_entry m formed valid index (is ∙ ap (λ (u : FuncType). Some u) (nothing_taken t e))
 
     by
         : (o : Option Export) → entry_refusal m o ≡ None
         → AllByRecursion (EntryFits m) (option_to_list (option_and_then (body_number m) (option_map (λ (export : Export). export.index) o)))
     by None e = let bad : ⊥ = cc in absurd bad
     by (Some export) e =
-        let both = and_both (export.kind == 0) (unwrap_or (option_map takes_nothing (function_type m export.index)) false) (holds_unless StartShape (is_entry m export) e) in
+        let both = and_both (export.kind == 0) (unwrap_or (option_map is_bare (function_type m export.index)) false) (holds_unless StartShape (is_entry m export) e) in
         typed_entry export.index (function_type m export.index) refl both.1
 
 entries_fit : (program : Program) → IsProgram program → AllByRecursion (EntryFits program.linked) (entries program.linked)

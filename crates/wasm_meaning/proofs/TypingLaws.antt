@@ -1,5 +1,5 @@
 -- The sequence that a body is typed as.
-use Rattle.std.proofs.Common.{◌≡◌, List, [], ◌∷◌, Option, Some, ap}
+use Rattle.std.proofs.Common.{◌≡◌, List, Option, ap}
 use Rattle.wasm_ops.specs.declared.operators.Op.{Op}
 use Rattle.wasm_ops.specs.Sequence.{Sequence}
 use Rattle.wasm_ops.specs.Nested.{Ahead, IsBodyOf}

@@ -7,7 +7,7 @@ use Rattle.wasm_ops.specs.declared.types.ValType.{ValType}
 use Rattle.wasm_meaning.specs.Effects.{Effect, Goes, Branches, Calls, Asks, Traps, Breaks, Taken, take_i32}
 use Rattle.wasm_meaning.specs.HostCalls.{host_type, host_effect}
 use Rattle.wasm_meaning.specs.State.{Function, Instance, State, with_operands}
-use Rattle.wasm_meaning.specs.TypingOperands.{same_type}
+use Rattle.wasm_meaning.specs.TypingOperands.{same_type, same_result}
 use Rattle.wasm_meaning.specs.Values.{Value, has_type, numbers}
 
 -- Branches.
@@ -107,15 +107,9 @@ same_types (t ∷ ts) (u ∷ us) = same_type t u && same_types ts us
 same_types [] (u ∷ us) = false
 same_types (t ∷ ts) [] = false
 
-abbrev pub same_results : Option ValType → Option ValType → Bool
-same_results None None = true
-same_results (Some t) (Some u) = same_type t u
-same_results None (Some u) = false
-same_results (Some t) None = false
-
 -- the types are equal in parameters and result
 abbrev pub same_function_type : FuncType → FuncType → Bool
-same_function_type t u = same_types t.params u.params && same_results t.result u.result
+same_function_type t u = same_types t.params u.params && same_result t.result u.result
 
 abbrev pub calls_if : (same : Bool) → Callee → State → Effect
 calls_if false callee st = Traps TypeMismatch

@@ -17,6 +17,7 @@ use Rattle.wasm_meaning.specs.declared.links.Unlinked.{Unlinked}
 use Rattle.wasm_meaning.specs.Bytes.{page}
 use Rattle.wasm_meaning.specs.Control.{same_function_type}
 use Rattle.wasm_meaning.specs.HostCalls.{host_type}
+use Rattle.wasm_meaning.specs.Validity.{is_bare}
 use Rattle.wasm_meaning.specs.ValiditySpaces.{function_type}
 
 -- the first refusal that is there
@@ -80,12 +81,9 @@ abbrev pub export_named : List ℕ → List Export → Option Export
 export_named name [] = None
 export_named name (export ∷ exports) = if bytes_eq export.name name then Some export else export_named name exports
 
-abbrev pub takes_nothing : FuncType → Bool
-takes_nothing type = same_function_type (record { params = []; result = None }) type
-
 -- a function of no parameters and no result
 abbrev pub is_entry : Module → Export → Bool
-is_entry m export = export.kind == 0 && unwrap_or (option_map takes_nothing (function_type m export.index)) false
+is_entry m export = export.kind == 0 && unwrap_or (option_map is_bare (function_type m export.index)) false
 
 abbrev pub entry_refusal : Module → Option Export → Option LinkRule
 entry_refusal m None = Some NoStart

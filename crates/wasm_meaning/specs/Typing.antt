@@ -20,7 +20,7 @@ use Rattle.wasm_meaning.specs.declared.violations.Rule.TheVariants.{UnknownIndex
 use Rattle.wasm_meaning.specs.declared.violations.Violation.{Violation}
 use Rattle.wasm_meaning.specs.ValidityChecks.{go_on}
 use Rattle.wasm_meaning.specs.ValiditySpaces.{tables, memories, globals, function_type}
-use Rattle.wasm_meaning.specs.TypingOperands.{Walk, start, breaks, known, holds, take_off, take_result, take_all, lay_result, cut, gives, unary, binary, branch, keep_result, branch_if, select, same_type}
+use Rattle.wasm_meaning.specs.TypingOperands.{Walk, start, breaks, known, holds, take_off, take_result, take_all, lay_result, cut, gives, unary, binary, branch, keep_result, branch_if, select, same_result}
 
 -- what the rules of a body's operators speak of
 pub record Context : Type 0 where
@@ -80,12 +80,6 @@ one_operand (Some o) now = unary (operand_of o) (result_of o) now
 abbrev pub two_operands : Option Operation → Walk → Result Walk Violation
 two_operands None now = Ok now
 two_operands (Some o) now = binary (operand_of o) (result_of o) now
-
--- two labels take the same
-abbrev pub same_result : Option ValType → Option ValType → Bool
-same_result None None = true
-same_result (Some t) (Some u) = same_type t u
-same_result _ _ = false
 
 -- the label encloses the operator
 abbrev pub is_label : Context → ℕ → Bool

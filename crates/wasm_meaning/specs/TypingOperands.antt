@@ -47,6 +47,12 @@ same_type I32 I32 = true
 same_type I64 I64 = true
 same_type _ _ = false
 
+-- two results are the same
+abbrev pub same_result : Option ValType → Option ValType → Bool
+same_result None None = true
+same_result (Some t) (Some u) = same_type t u
+same_result _ _ = false
+
 -- an operand of the second type serves where one of the first is due
 abbrev pub fits : Operand → Operand → Bool
 fits (Some t) (Some u) = same_type t u

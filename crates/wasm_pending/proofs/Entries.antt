@@ -1,21 +1,19 @@
 -- The entries of a program are functions of its own that take and give nothing.
-use Rattle.std.proofs.Common.{◌≡◌, ℕ, suc, ◌+◌, ◌-◌, ◌≤◌, ◌==◌, Bool, true, false, cond, not, nat_lt, List, [], ◌∷◌, ◌++◌, length, Option, Some, None, Ok, is_some, refl, sym, ap, ◌∙◌, option_and_then, option_map, option_to_list, arith}
+use Rattle.std.proofs.Common.{◌≡◌, ℕ, ◌+◌, ◌-◌, ◌≤◌, ◌==◌, Bool, true, false, cond, not, nat_lt, List, [], ◌∷◌, ◌++◌, Option, Some, None, Ok, refl, ap, ◌∙◌, option_and_then, option_map, option_to_list, arith}
 use Rattle.std.proofs.lemmas.Bool.Decides.{nat_tests}
 use Rattle.std.specs.Prelude.{unwrap_or}
 use Rattle.wasm_ops.specs.WellFormed.{IsWellFormed}
 use Rattle.wasm_ops.specs.declared.modules.Export.{Export}
 use Rattle.wasm_ops.specs.declared.modules.Module.{Module}
 use Rattle.wasm_ops.specs.declared.types.FuncType.{FuncType}
-use Rattle.wasm_ops.specs.declared.types.ValType.{ValType}
 use Rattle.wasm_meaning.specs.declared.links.LinkRule.TheVariants.{StartShape}
 use Rattle.wasm_meaning.specs.declared.violations.Rule.TheVariants.{StartType}
-use Rattle.wasm_meaning.specs.Linking.{first_refused, import_refusal, told_at, takes_nothing, is_entry, entry_refusal, export_named, entry_name, link_refusal}
+use Rattle.wasm_meaning.specs.Linking.{first_refused, import_refusal, told_at, is_entry, entry_refusal, export_named, entry_name, link_refusal}
 use Rattle.wasm_meaning.specs.Pending.{entering}
 use Rattle.wasm_meaning.specs.Programs.{Program, IsProgram, body_number, start_body, entry_body, entries}
 use Rattle.wasm_meaning.specs.Validity.{is_bare, entered_rule, start_rule, imports_walk, functions_walk, tables_walk, memories_walk, globals_walk, exports_walk, start_walk, elements_walk, segments_walk, bodies_walk, outside_walk, module_walk}
 use Rattle.wasm_meaning.specs.ValiditySpaces.{count_imported, function_type}
-use Rattle.wasm_meaning.proofs.ModuleFacts.{and_both, not_false, passes_both, keeps_rule, no_rule, none_of_all, not_told, holds_unless}
-use Rattle.wasm_meaning.proofs.SafeControl.{function_types_equal}
+use Rattle.wasm_meaning.proofs.ModuleFacts.{and_both, not_false, passes_both, keeps_rule, no_rule, none_of_all, not_told, holds_unless, nothing_taken}
 use Rattle.wasm_meaning.proofs.SafeInstances.{defined_at}
 use Rattle.wasm_pending.specs.Typed.{OnlyEntries}
 
@@ -60,21 +58,6 @@ bare_entry m formed valid index is = by (nat_lt index (count_imported m)) refl
         let d = defined_at m formed valid (index - count_imported m) bare (ap (λ (k : ℕ). function_type m k) place ∙ is) in
         (record { runs = d.function; is = d.is; no_params = d.fits.params_are; no_result = d.fits.result_is }, tt)
 
-is_zero : (n : ℕ) → n == 0 ≡ true → n ≡ 0
-is_zero n e = grind (arith, nat_tests)
-
-nothing_taken : (t : FuncType) → is_bare t ≡ true → t ≡ bare
-nothing_taken t e = by t.params t.result (and_both (length t.params == 0) (not (is_some t.result)) e)
-  where
-    by
-        : (ps : List ValType) (r : Option ValType) → (length ps == 0 ≡ true) × (not (is_some r) ≡ true)
-        → ◌≡◌ {A = FuncType} (record { params = ps; result = r }) bare
-    by [] None both = refl
-    by [] (Some r) both = let has = both.1 in let bad : ⊥ = cc in absurd bad
-    by (p ∷ ps) r both =
-        let none = is_zero (suc (length ps)) both.0 in
-        let bad : ⊥ = omega (arith, none) in absurd bad
-
 start_is_fine : (m : Module) → start_walk m ≡ Ok tt → start_rule m m.start ≡ None
 unfolding start_walk
 start_is_fine m passes = no_rule 0 (start_rule m m.start) passes
@@ -101,18 +84,17 @@ entry_is_fine m pages links =
 main_enters : (m : Module) (pages : ℕ) → IsWellFormed m → module_walk m ≡ Ok tt → link_refusal m pages ≡ None → OnlyEntries m (entering (option_to_list (entry_body m)))
 main_enters m pages formed valid links = by (export_named entry_name m.exports) (entry_is_fine m pages links)
   where
-    typed_entry : (index : ℕ) (o : Option FuncType) → function_type m index ≡ o → unwrap_or (option_map takes_nothing o) false ≡ true → OnlyEntries m (entering (option_to_list (body_number m index)))
+    typed_entry : (index : ℕ) (o : Option FuncType) → function_type m index ≡ o → unwrap_or (option_map is_bare o) false ≡ true → OnlyEntries m (entering (option_to_list (body_number m index)))
     typed_entry index None is e = let bad : ⊥ = cc in absurd bad
     typed_entry index (Some t) is e =
-        let same = function_types_equal bare t e in
-        bare_entry m formed valid index (is ∙ ap (λ (u : FuncType). Some u) (sym same))
+        bare_entry m formed valid index (is ∙ ap (λ (u : FuncType). Some u) (nothing_taken t e))
 
     by
         : (o : Option Export) → entry_refusal m o ≡ None
         → OnlyEntries m (entering (option_to_list (option_and_then (body_number m) (option_map (λ (export : Export). export.index) o))))
     by None e = let bad : ⊥ = cc in absurd bad
     by (Some export) e =
-        let both = and_both (export.kind == 0) (unwrap_or (option_map takes_nothing (function_type m export.index)) false) (holds_unless StartShape (is_entry m export) e) in
+        let both = and_both (export.kind == 0) (unwrap_or (option_map is_bare (function_type m export.index)) false) (holds_unless StartShape (is_entry m export) e) in
         typed_entry export.index (function_type m export.index) refl both.1
 
 both_enter : (m : Module) (first others : List ℕ) → OnlyEntries m (entering first) → OnlyEntries m (entering others) → OnlyEntries m (entering (first ++ others))

@@ -13,13 +13,13 @@ use Rattle.wasm_ops.specs.declared.types.FuncType.{FuncType}
 use Rattle.wasm_meaning.specs.declared.links.LinkRule.TheVariants.{StartShape}
 use Rattle.wasm_meaning.specs.Control.{Callee, Host, imported_or, callee_at}
 use Rattle.wasm_meaning.specs.HostCalls.{host_type}
-use Rattle.wasm_meaning.specs.Linking.{link_refusal, first_refused, import_refusal, told_at, takes_nothing, is_entry, entry_refusal, export_named, entry_name}
+use Rattle.wasm_meaning.specs.Linking.{link_refusal, first_refused, import_refusal, told_at, is_entry, entry_refusal, export_named, entry_name}
 use Rattle.wasm_meaning.specs.Pending.{entering}
 use Rattle.wasm_meaning.specs.Programs.{Program, IsProgram, first, most, start_body, entry_body, body_number, hosts, instance_of}
+use Rattle.wasm_meaning.specs.Validity.{is_bare}
 use Rattle.wasm_meaning.specs.ValiditySpaces.{count_imported, function_type}
-use Rattle.wasm_meaning.proofs.ModuleFacts.{get_at, get_behind, and_both, is_less, none_of_all, not_told, holds_unless}
+use Rattle.wasm_meaning.proofs.ModuleFacts.{get_at, get_behind, and_both, is_less, none_of_all, not_told, holds_unless, nothing_taken}
 use Rattle.wasm_meaning.proofs.Ready.{CalleeFits}
-use Rattle.wasm_meaning.proofs.SafeControl.{function_types_equal}
 use Rattle.wasm_meaning.proofs.SafeInstances.{as_many_hosts, instance_fits}
 use Rattle.wasm_pending.specs.Typed.{OnlyEntries, CanEnter}
 use Rattle.wasm_pending.proofs.Entries.{entries_enter}
@@ -68,11 +68,10 @@ has_entry p is = by (export_named entry_name p.linked.exports) refl (entry_is_fi
   where
     typed_entry
         : (export : Export) (o : Option FuncType) → export_named entry_name p.linked.exports ≡ Some export → function_type p.linked export.index ≡ o
-        → unwrap_or (option_map takes_nothing o) false ≡ true → HasEntry p.linked
+        → unwrap_or (option_map is_bare o) false ≡ true → HasEntry p.linked
     typed_entry export None named has e = let bad : ⊥ = cc in absurd bad
     typed_entry export (Some t) named has e =
-        let same = function_types_equal bare t e in
-        own (nat_lt export.index (count_imported p.linked)) refl (has ∙ ap (λ (u : FuncType). Some u) (sym same))
+        own (nat_lt export.index (count_imported p.linked)) refl (has ∙ ap (λ (u : FuncType). Some u) (nothing_taken t e))
       where
         own : (b : Bool) → nat_lt export.index (count_imported p.linked) ≡ b → function_type p.linked export.index ≡ Some bare → HasEntry p.linked
         own true below typed_bare = absurd (not_imported p is export.index typed_bare below)
@@ -85,7 +84,7 @@ has_entry p is = by (export_named entry_name p.linked.exports) refl (entry_is_fi
     by : (o : Option Export) → export_named entry_name p.linked.exports ≡ o → entry_refusal p.linked o ≡ None → HasEntry p.linked
     by None named e = let bad : ⊥ = cc in absurd bad
     by (Some export) named e =
-        let both = and_both (export.kind == 0) (unwrap_or (option_map takes_nothing (function_type p.linked export.index)) false) (holds_unless StartShape (is_entry p.linked export) e) in
+        let both = and_both (export.kind == 0) (unwrap_or (option_map is_bare (function_type p.linked export.index)) false) (holds_unless StartShape (is_entry p.linked export) e) in
         typed_entry export (function_type p.linked export.index) named refl both.1
 
 last_enters : (m : Module) (others : List ℕ) (body : ℕ) → OnlyEntries m (entering (others ++ body ∷ [])) → CanEnter m body

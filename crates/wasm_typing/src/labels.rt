@@ -1,7 +1,8 @@
 //! Labels, which count the open blocks outwards (WebAssembly Core 1.0, section 3.1.1).
 ghost use Rattle.std.specs.Prelude.{◌≡◌, ◌∷◌, [], ◌++◌, map, length, slice_get, IsTrue};
 ghost use Rattle.std.specs.List.{list_all};
-ghost use Rattle.wasm_meaning.specs.Typing.{label_of, same_result, is_label, agrees, takes};
+ghost use Rattle.wasm_meaning.specs.Typing.{label_of, is_label, agrees, takes};
+ghost use Rattle.wasm_meaning.specs.TypingOperands.{same_result};
 ghost use Rattle.wasm_typing.specs.Scopes.{context_at};
 
 use crate::frames::Frame;

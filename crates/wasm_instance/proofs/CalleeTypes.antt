@@ -1,17 +1,17 @@
 -- The type of a function that is called.
-use Rattle.std.proofs.Common.{◌≡◌, ◌⊎◌, inl, inr, ℕ, ◌+◌, ◌-◌, ◌<◌, ◌≤◌, Bool, true, false, ◌&&◌, nat_lt, List, [], ◌∷◌, length, Option, Some, None, Ok, slice_get, refl, sym, ap, subst, ◌∙◌, arith}
+use Rattle.std.proofs.Common.{◌≡◌, ℕ, ◌+◌, ◌-◌, ◌<◌, ◌≤◌, Bool, true, false, ◌&&◌, nat_lt, List, [], ◌∷◌, length, Option, Some, None, slice_get, refl, sym, ap, subst, ◌∙◌, arith}
 use Rattle.std.proofs.lemmas.Bool.Decides.{nat_tests, same_from_decides}
 use Rattle.std.specs.Bool.{Decides}
+use Rattle.wasm_ops.specs.Limits.{imported_functions}
 use Rattle.wasm_ops.specs.declared.modules.Module.{Module}
 use Rattle.wasm_ops.specs.declared.types.FuncType.{FuncType}
 use Rattle.wasm_ops.specs.declared.types.ValType.{ValType}
 use Rattle.wasm_ops.specs.declared.types.ValType.TheVariants.{I32, I64}
 use Rattle.wasm_meaning.specs.Control.{Callee, Host, Defined, callee_at, imported_or, defined_callee, type_of_callee, same_types, same_function_type}
-use Rattle.wasm_meaning.specs.HostCalls.{host_type}
 use Rattle.wasm_meaning.specs.Programs.{Program, IsProgram, defined, hosts, instance_of}
 use Rattle.wasm_meaning.specs.State.{Function}
 use Rattle.wasm_meaning.specs.TypingOperands.{same_type, same_result}
-use Rattle.wasm_meaning.specs.ValiditySpaces.{functions, count_imported, function_type, body_type}
+use Rattle.wasm_meaning.specs.ValiditySpaces.{function_type}
 use Rattle.wasm_meaning.proofs.ModuleFacts.{get_at, get_past}
 use Rattle.wasm_meaning.proofs.Ready.{CalleeFits}
 use Rattle.wasm_meaning.proofs.SafeControl.{function_types_equal}
@@ -70,17 +70,17 @@ no_type p index type none = ap (λ (o : Option FuncType). same_as o (callee_at (
 -- A function that has none is none.
 
 nothing_there : (p : Program) → IsProgram p → (index : ℕ) → function_type p.linked index ≡ None → callee_at (instance_of p) index ≡ None
-nothing_there p is index none = by (nat_lt index (count_imported p.linked)) refl
+nothing_there p is index none = by (nat_lt index (imported_functions p.linked.imports)) refl
   where
-    many : length (hosts p.linked) ≡ count_imported p.linked
+    many : length (hosts p.linked) ≡ imported_functions p.linked.imports
     many = as_many_hosts p.linked p.pages is.links
 
-    behind : (j : ℕ) → j ≡ index - count_imported p.linked → count_imported p.linked ≤ index → (b : Bool) → nat_lt j (length p.linked.bodies) ≡ b → callee_at (instance_of p) index ≡ None
+    behind : (j : ℕ) → j ≡ index - imported_functions p.linked.imports → imported_functions p.linked.imports ≤ index → (b : Bool) → nat_lt j (length p.linked.bodies) ≡ b → callee_at (instance_of p) index ≡ None
     behind j at le true e =
         let within : j < length p.linked.bodies = grind (arith, nat_tests) in
         let body = get_at p.linked.bodies j within in
         let typed = body_has_type p.linked (record { formed = is.formed; unbroken = is.valid }) j body.item body.is in
-        let place : count_imported p.linked + j ≡ index = omega (arith, at, le) in
+        let place : imported_functions p.linked.imports + j ≡ index = omega (arith, at, le) in
         let known : function_type p.linked index ≡ Some typed.type = ap (λ (k : ℕ). function_type p.linked k) (sym place) ∙ typed.is in
         let bad : ⊥ = cc (known, none) in
         absurd bad
@@ -92,15 +92,15 @@ nothing_there p is index none = by (nat_lt index (count_imported p.linked)) refl
         get_past (defined p.linked) (index - length (hosts p.linked)) (omega (arith, many, at, past, count)) in
         ap (λ (o : Option _). imported_or o (instance_of p) index) no_host ∙ ap (λ (o : Option Function). defined_callee o) no_body
 
-    by : (b : Bool) → nat_lt index (count_imported p.linked) ≡ b → callee_at (instance_of p) index ≡ None
+    by : (b : Bool) → nat_lt index (imported_functions p.linked.imports) ≡ b → callee_at (instance_of p) index ≡ None
     by true e =
-        let below : index < count_imported p.linked = grind (arith, nat_tests) in
+        let below : index < imported_functions p.linked.imports = grind (arith, nat_tests) in
         let typed = imported_has_type p.linked p.pages is.links index below in
         let bad : ⊥ = cc (typed.is, none) in
         absurd bad
     by false e =
-        let le : count_imported p.linked ≤ index = grind (arith, nat_tests) in
-        behind (index - count_imported p.linked) refl le (nat_lt (index - count_imported p.linked) (length p.linked.bodies)) refl
+        let le : imported_functions p.linked.imports ≤ index = grind (arith, nat_tests) in
+        behind (index - imported_functions p.linked.imports) refl le (nat_lt (index - imported_functions p.linked.imports) (length p.linked.bodies)) refl
 
 pub no_callee
     : (p : Program) → IsProgram p → (index type : ℕ) (wanted : FuncType) → slice_get p.linked.types type ≡ Some wanted → function_type p.linked index ≡ None

@@ -9,13 +9,14 @@ use Rattle.wasm_ops.specs.declared.modules.Body.{Body}
 use Rattle.wasm_ops.specs.declared.modules.Import.{Import}
 use Rattle.wasm_ops.specs.declared.modules.Module.{Module}
 use Rattle.wasm_ops.specs.declared.types.FuncType.{FuncType}
+use Rattle.wasm_ops.specs.Limits.{imported_functions}
 use Rattle.wasm_ops.specs.WellFormed.{IsWellFormed, IsWellFormedBody, IsFunctionType}
 use Rattle.wasm_meaning.specs.Linking.{host_in}
 use Rattle.wasm_meaning.specs.Programs.{or_bare, function_of, defined_from, defined}
 use Rattle.wasm_meaning.specs.State.{Function}
 use Rattle.wasm_meaning.specs.Validity.{IsValid, body_height, body_nest, height_in, nest_in, typed_in, body_walk, next_body, bodies_walk, outside_walk, module_walk}
-use Rattle.wasm_meaning.specs.ValiditySpaces.{as_function, imported, functions, count_imported, body_type}
-use Rattle.wasm_meaning.proofs.ModuleFacts.{get_behind, all_at, passes_both, each_checked}
+use Rattle.wasm_meaning.specs.ValiditySpaces.{functions, body_type}
+use Rattle.wasm_meaning.proofs.ModuleFacts.{get_defined, all_at, passes_both, each_checked}
 use Rattle.wasm_instance.specs.declared.callees.Shape.{Shape}
 use Rattle.wasm_instance.specs.Callees.{shape_of}
 
@@ -64,8 +65,8 @@ pub defined_is
     → slice_get (defined m) j ≡ Some (function_of m type body)
 unfolding defined
 defined_is m j type body typed is =
-    let t = type_index m (slice_get (functions m) (count_imported m + j)) type typed in
-    let own : slice_get m.functions j ≡ Some t.index = sym (get_behind (imported as_function m.imports) m.functions j) ∙ t.is in
+    let t = type_index m (slice_get (functions m) (imported_functions m.imports + j)) type typed in
+    let own : slice_get m.functions j ≡ Some t.index = sym (get_defined m j) ∙ t.is in
     defined_get m m.functions m.bodies j t.index type body own t.found is
 
 defined_long : (m : Module) (types : List ℕ) (bodies : List Body) → length bodies ≡ length types → length (defined_from m types bodies) ≡ length bodies
@@ -82,7 +83,7 @@ as_many m formed = defined_long m m.functions m.bodies formed.as_many_bodies
 -- the parameters and locals of a body are few
 pub few_params : (m : Module) → IsWellFormed m → (j : ℕ) (type : FuncType) → body_type m j ≡ Some type → length type.params ≤ 1000
 few_params m formed j type is =
-    let t = type_index m (slice_get (functions m) (count_imported m + j)) type is in
+    let t = type_index m (slice_get (functions m) (imported_functions m.imports + j)) type is in
     all_at IsFunctionType m.types t.index type formed.items.types t.found
 
 pub few_locals : (m : Module) → IsWellFormed m → (j : ℕ) (body : Body) → slice_get m.bodies j ≡ Some body → length body.locals ≤ 1024

@@ -1,7 +1,12 @@
 -- What follows for each item of a module from the walk that finds it valid, and from linking.
-use Rattle.std.proofs.Common.{◌≡◌, ℕ, zero, suc, ◌+◌, ◌<◌, ◌≤◌, ◌==◌, Bool, true, false, not, ◌&&◌, nat_lt, nat_le, List, [], ◌∷◌, ◌++◌, length, take, drop, Option, Some, None, Ok, Err, slice_get, is_some, refl, ap, subst, ◌∙◌, arith, length-append}
+use Rattle.std.proofs.Common.{◌≡◌, ℕ, zero, suc, ◌+◌, ◌<◌, ◌≤◌, ◌==◌, Bool, true, false, not, ◌&&◌, nat_lt, nat_le, List, [], ◌∷◌, ◌++◌, length, take, drop, Option, Some, None, Ok, Err, slice_get, is_some, refl, sym, ap, subst, ◌∙◌, arith, length-append}
 use Rattle.std.proofs.lemmas.Bool.Decides.{nat_tests}
-use Rattle.std.specs.List.{AllByRecursion}
+use Rattle.std.specs.List.{AllByRecursion, cons_option}
+use Rattle.wasm_ops.specs.Limits.{counts_function, imported_functions}
+use Rattle.wasm_ops.specs.declared.modules.Import.{Import}
+use Rattle.wasm_ops.specs.declared.modules.ImportItem.{ImportItem}
+use Rattle.wasm_ops.specs.declared.modules.ImportItem.TheVariants as import_item
+use Rattle.wasm_ops.specs.declared.modules.Module.{Module}
 use Rattle.wasm_ops.specs.declared.types.FuncType.{FuncType}
 use Rattle.wasm_ops.specs.declared.types.ValType.{ValType}
 use Rattle.wasm_meaning.specs.declared.links.LinkRule.{LinkRule}
@@ -11,6 +16,7 @@ use Rattle.wasm_meaning.specs.Linking.{first_of_all, told_at, first_refused, bro
 use Rattle.wasm_meaning.proofs.Fits.{went}
 use Rattle.wasm_meaning.specs.Validity.{is_bare}
 use Rattle.wasm_meaning.specs.ValidityChecks.{Check, in_order, each_behind, first_rule, broken_at, each_item}
+use Rattle.wasm_meaning.specs.ValiditySpaces.{as_function, imported, functions}
 
 -- Places in lists.
 
@@ -65,6 +71,25 @@ pub all_dropped : {A : Type 0} (P : A → Type 0) (n : ℕ) (xs : List A) → Al
 all_dropped P zero xs all = all
 all_dropped P (suc n) [] all = tt
 all_dropped P (suc n) (x ∷ xs) all = all_dropped P n xs all.1
+
+-- Imported functions.
+
+count_more : (item : ImportItem) (found : List ℕ) → length (cons_option (as_function item) found) ≡ counts_function item + length found
+count_more (import_item.Function type) found = omega arith
+count_more (import_item.Table limits) found = omega arith
+count_more (import_item.Memory limits) found = omega arith
+count_more (import_item.Global value mutable) found = omega arith
+
+-- the functions found in the imports are as many as are counted there
+pub imported_count : (imports : List Import) → length (imported as_function imports) ≡ imported_functions imports
+imported_count [] = refl
+imported_count (i ∷ imports) =
+    count_more i.item (imported as_function imports) ∙ ap (λ (n : ℕ). counts_function i.item + n) (imported_count imports)
+
+-- behind the imported functions come those that the module defines
+pub get_defined : (m : Module) (j : ℕ) → slice_get (functions m) (imported_functions m.imports + j) ≡ slice_get m.functions j
+get_defined m j =
+    ap (λ (n : ℕ). slice_get (functions m) (n + j)) (sym (imported_count m.imports)) ∙ get_behind (imported as_function m.imports) m.functions j
 
 -- Tests.
 

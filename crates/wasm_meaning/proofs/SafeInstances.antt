@@ -3,6 +3,7 @@ use Rattle.std.proofs.Common.{◌≡◌, ◌⊎◌, inl, inr, ℕ, zero, suc, �
 use Rattle.std.proofs.lemmas.Bool.Decides.{nat_tests}
 use Rattle.std.specs.List.{AllByRecursion, cons_option}
 use Rattle.wasm_ops.proofs.NestedLaws.{ahead_of-body}
+use Rattle.wasm_ops.specs.Limits.{imported_functions}
 use Rattle.wasm_ops.specs.Sequence.{Sequence, Done, Plain, InBlock, InLoop, InIf, InIfElse, IsNested, size, flat}
 use Rattle.wasm_ops.specs.Nested.{Ahead}
 use Rattle.wasm_ops.specs.WellFormed.{IsOperator, IsWellFormedBody, IsWellFormed}
@@ -27,9 +28,9 @@ use Rattle.wasm_meaning.specs.State.{Function}
 use Rattle.wasm_meaning.specs.Typing.{context_of, typed, ended, sequence_in, nested_body, body_typed}
 use Rattle.wasm_meaning.specs.TypingOperands.{Walk, start}
 use Rattle.wasm_meaning.specs.Validity.{in_body, typed_in, body_walk, next_body, bodies_walk, outside_walk, module_walk}
-use Rattle.wasm_meaning.specs.ValiditySpaces.{as_function, imported, functions, count_imported, function_type, body_type}
+use Rattle.wasm_meaning.specs.ValiditySpaces.{as_function, imported, functions, function_type, body_type}
 use Rattle.wasm_meaning.proofs.Fits.{went}
-use Rattle.wasm_meaning.proofs.ModuleFacts.{get_behind, get_past, get_at, is_within, all_at, all_front, all_rest, passes_both, each_checked, none_of_all, first_is_fine, holds_unless}
+use Rattle.wasm_meaning.proofs.ModuleFacts.{get_defined, imported_count, get_past, get_at, is_within, all_at, all_front, all_rest, passes_both, each_checked, none_of_all, first_is_fine, holds_unless}
 use Rattle.wasm_meaning.proofs.Ready.{TypedFunction, CalleeAt, InstanceFits}
 use Rattle.wasm_meaning.proofs.SafeControl.{function_types_equal}
 
@@ -128,8 +129,8 @@ pub defined_at : (m : Module) → IsWellFormed m → module_walk m ≡ Ok tt →
 unfolding module_walk bodies_walk defined
 defined_at m formed valid j type is =
     let bodies = (passes_both (bodies_walk m) [] (passes_both (outside_walk m) (bodies_walk m ∷ []) valid).1).0 in
-    let t = type_index m (slice_get (functions m) (count_imported m + j)) type is in
-    let own : slice_get m.functions j ≡ Some t.index = sym (get_behind (imported as_function m.imports) m.functions j) ∙ t.is in
+    let t = type_index m (slice_get (functions m) (imported_functions m.imports + j)) type is in
+    let own : slice_get m.functions j ≡ Some t.index = sym (get_defined m j) ∙ t.is in
     let within = is_within m.functions j t.index own in
     let b = get_at m.bodies j (omega (arith, within, formed.as_many_bodies)) in
     let checked = each_checked (next_body m) m.bodies j b.item bodies b.is in
@@ -219,8 +220,8 @@ pub imports_link : (m : Module) (pages : ℕ) → link_refusal m pages ≡ None 
 unfolding link_refusal
 imports_link m pages links = (none_of_all (first_refused (import_refusal m.types) 0 m.imports) _ links).0
 
-pub as_many_hosts : (m : Module) (pages : ℕ) → link_refusal m pages ≡ None → length (hosts m) ≡ count_imported m
-as_many_hosts m pages links = (hosts_fit m.types m.imports 0 (imports_link m pages links)).as_many
+pub as_many_hosts : (m : Module) (pages : ℕ) → link_refusal m pages ≡ None → length (hosts m) ≡ imported_functions m.imports
+as_many_hosts m pages links = (hosts_fit m.types m.imports 0 (imports_link m pages links)).as_many ∙ imported_count m.imports
 
 -- The instance.
 
@@ -237,12 +238,16 @@ get_before [] ys j e = let bad : ⊥ = omega (arith, e) in absurd bad
 get_before (x ∷ xs) ys zero e = refl
 get_before (x ∷ xs) ys (suc j) e = get_before xs ys j (omega (arith, e))
 
+found_within : (m : Module) (index : ℕ) → index < imported_functions m.imports → index < length (imported as_function m.imports)
+found_within m index below = let count = imported_count m.imports in omega (arith, below, count)
+
 imported_callee
-    : (m : Module) (pages : ℕ) → (links : link_refusal m pages ≡ None) → (index : ℕ) (type : FuncType) → index < count_imported m
+    : (m : Module) (pages : ℕ) → (links : link_refusal m pages ≡ None) → (index : ℕ) (type : FuncType) → index < imported_functions m.imports
     → function_type m index ≡ Some type → CalleeAt m (instance_of (record { linked = m; pages = pages })) index type
 imported_callee m pages links index type below is =
     let t = type_index m (slice_get (functions m) index) type is in
-    let own : slice_get (imported as_function m.imports) index ≡ Some t.index = sym (get_before (imported as_function m.imports) m.functions index below) ∙ t.is in
+    let within = found_within m index below in
+    let own : slice_get (imported as_function m.imports) index ≡ Some t.index = sym (get_before (imported as_function m.imports) m.functions index within) ∙ t.is in
     let h = (hosts_fit m.types m.imports 0 (imports_link m pages links)).each index t.index own in
     let same : host_type h.0 ≡ type = given_types (host_type h.0) type (sym h.2 ∙ t.found) in
     record {
@@ -254,23 +259,24 @@ imported_callee m pages links index type below is =
     given_types : (t u : FuncType) → Some t ≡ Some u → t ≡ u
     given_types t u e = cc
 
-pub imported_has_type : (m : Module) (pages : ℕ) → link_refusal m pages ≡ None → (index : ℕ) → index < count_imported m → HasType m index
+pub imported_has_type : (m : Module) (pages : ℕ) → link_refusal m pages ≡ None → (index : ℕ) → index < imported_functions m.imports → HasType m index
 imported_has_type m pages links index below =
-    let a = get_at (imported as_function m.imports) index below in
+    let within = found_within m index below in
+    let a = get_at (imported as_function m.imports) index within in
     let h = (hosts_fit m.types m.imports 0 (imports_link m pages links)).each index a.item a.is in
     record {
       type = host_type h.0;
-      is = ap (λ (o : Option ℕ). option_and_then (slice_get m.types) o) (get_before (imported as_function m.imports) m.functions index below ∙ a.is) ∙ h.2;
+      is = ap (λ (o : Option ℕ). option_and_then (slice_get m.types) o) (get_before (imported as_function m.imports) m.functions index within ∙ a.is) ∙ h.2;
     }
 
 own_callee
     : (m : Module) (pages : ℕ) → IsWellFormed m → module_walk m ≡ Ok tt → (links : link_refusal m pages ≡ None) → (index : ℕ) (type : FuncType)
-    → index ≡ count_imported m + (index - count_imported m)
+    → index ≡ imported_functions m.imports + (index - imported_functions m.imports)
     → function_type m index ≡ Some type → CalleeAt m (instance_of (record { linked = m; pages = pages })) index type
 own_callee m pages formed valid links index type behind is =
     let inst = instance_of (record { linked = m; pages = pages }) in
     let many = as_many_hosts m pages links in
-    let j = index - count_imported m in
+    let j = index - imported_functions m.imports in
     let d = defined_at m formed valid j type (ap (λ (k : ℕ). function_type m k) (sym behind) ∙ is) in
     let none : slice_get (hosts m) index ≡ None = get_past (hosts m) index (omega (arith, many, behind)) in
     let place : index - length (hosts m) ≡ j = omega (arith, many) in
@@ -285,12 +291,12 @@ own_callee m pages formed valid links index type behind is =
 pub instance_fits : (program : Program) → IsProgram program → InstanceFits program.linked (instance_of program)
 instance_fits program is = record {
   types_are = refl;
-  callees = λ index type has. by index type has (split_at (count_imported program.linked) index);
+  callees = λ index type has. by index type has (split_at (imported_functions program.linked.imports) index);
 }
   where
     by
         : (index : ℕ) (type : FuncType) → function_type program.linked index ≡ Some type
-        → (index < count_imported program.linked) ⊎ (index ≡ count_imported program.linked + (index - count_imported program.linked))
+        → (index < imported_functions program.linked.imports) ⊎ (index ≡ imported_functions program.linked.imports + (index - imported_functions program.linked.imports))
         → CalleeAt program.linked (instance_of program) index type
     by index type has (inl below) = imported_callee program.linked program.pages is.links index type below has
     by index type has (inr behind) = own_callee program.linked program.pages is.formed is.valid is.links index type behind has

@@ -3,6 +3,7 @@ use Rattle.std.proofs.Common.{◌≡◌, ℕ, zero, suc, ◌+◌, ◌-◌, ◌<�
 use Rattle.std.proofs.lemmas.Bool.Decides.{nat_tests}
 use Rattle.std.specs.List.{AllByRecursion, list_all, cons_option}
 use Rattle.std.specs.Prelude.{unwrap_or}
+use Rattle.wasm_ops.specs.Limits.{imported_functions}
 use Rattle.wasm_ops.specs.Sequence.{Done}
 use Rattle.wasm_ops.specs.WellFormed.{IsWellFormed}
 use Rattle.wasm_ops.specs.declared.modules.ElementSegment.{ElementSegment}
@@ -29,10 +30,10 @@ use Rattle.wasm_meaning.specs.State.{Function, Instance, State, Outcome, Fell, B
 use Rattle.wasm_meaning.specs.Typing.{Context}
 use Rattle.wasm_meaning.specs.TypingOperands.{start, same_type}
 use Rattle.wasm_meaning.specs.Validity.{is_unknown, are_known, function_rule, global_rule, is_bare, entered_rule, start_rule, element_rule, imports_walk, functions_walk, tables_walk, memories_walk, globals_walk, exports_walk, start_walk, elements_walk, segments_walk, bodies_walk, outside_walk, module_walk}
-use Rattle.wasm_meaning.specs.ValiditySpaces.{as_function, as_global, imported, functions, tables, globals, defined_global, count_imported, function_type}
+use Rattle.wasm_meaning.specs.ValiditySpaces.{as_global, imported, functions, tables, globals, defined_global, function_type}
 use Rattle.wasm_meaning.specs.Values.{Value, has_type}
 use Rattle.wasm_meaning.proofs.Fits.{same_types_equal, has_value_of}
-use Rattle.wasm_meaning.proofs.ModuleFacts.{At, get_at, get_behind, all_at, all_joined, all_taken, all_dropped, and_both, not_false, below_of, is_less, passes_both, each_keeps, keeps_rule, no_rule, none_of_all, not_told, first_is_fine, holds_unless, nothing_taken}
+use Rattle.wasm_meaning.proofs.ModuleFacts.{At, get_at, get_defined, all_at, all_joined, all_taken, all_dropped, and_both, not_false, below_of, is_less, passes_both, each_keeps, keeps_rule, no_rule, none_of_all, not_told, first_is_fine, holds_unless, nothing_taken}
 use Rattle.wasm_meaning.proofs.Ready.{InstanceFits, GoFits}
 use Rattle.wasm_meaning.proofs.SafeInstances.{DefinedAt, defined_at, imports_link, imported_has_type, instance_fits}
 use Rattle.wasm_meaning.proofs.SafeRuns.{RunFits, MayEnd, call_fits, exec_fits}
@@ -150,17 +151,17 @@ function_has_type : (m : Module) (pages : ℕ) → module_walk m ≡ Ok tt → l
 function_has_type m pages valid links index below = of_index (get_at (functions m) index below)
   where
     of_index : At (functions m) index → HasType m index
-    of_index a = by (nat_lt index (count_imported m)) refl
+    of_index a = by (nat_lt index (imported_functions m.imports)) refl
       where
-        by : (b : Bool) → nat_lt index (count_imported m) ≡ b → HasType m index
-        by true e = imported_has_type m pages links index (is_less index (count_imported m) e)
+        by : (b : Bool) → nat_lt index (imported_functions m.imports) ≡ b → HasType m index
+        by true e = imported_has_type m pages links index (is_less index (imported_functions m.imports) e)
         by false e =
-            let le : count_imported m ≤ index = grind (arith, nat_tests) in
-            let place : count_imported m + (index - count_imported m) ≡ index = omega (arith, le) in
-            let own : slice_get m.functions (index - count_imported m) ≡ Some a.item
-            = sym (get_behind (imported as_function m.imports) m.functions (index - count_imported m))
+            let le : imported_functions m.imports ≤ index = grind (arith, nat_tests) in
+            let place : imported_functions m.imports + (index - imported_functions m.imports) ≡ index = omega (arith, le) in
+            let own : slice_get m.functions (index - imported_functions m.imports) ≡ Some a.item
+            = sym (get_defined m (index - imported_functions m.imports))
             ∙ ap (λ (k : ℕ). slice_get (functions m) k) place ∙ a.is in
-            typed_at m index a.item a.is (type_is_known m (walks m valid).functions_pass (index - count_imported m) a.item own)
+            typed_at m index a.item a.is (type_is_known m (walks m valid).functions_pass (index - imported_functions m.imports) a.item own)
 
 -- The fresh state.
 
@@ -191,14 +192,14 @@ record EntriesFit (m : Module) (js : List ℕ) : Type 0 where
 bare_entry
     : (m : Module) → IsWellFormed m → module_walk m ≡ Ok tt → (index : ℕ) → function_type m index ≡ Some (record { params = []; result = None })
     → AllByRecursion (EntryFits m) (option_to_list (body_number m index))
-bare_entry m formed valid index is = by (nat_lt index (count_imported m)) refl
+bare_entry m formed valid index is = by (nat_lt index (imported_functions m.imports)) refl
   where
-    by : (b : Bool) → nat_lt index (count_imported m) ≡ b → AllByRecursion (EntryFits m) (option_to_list (cond b None (Some (index - count_imported m))))
+    by : (b : Bool) → nat_lt index (imported_functions m.imports) ≡ b → AllByRecursion (EntryFits m) (option_to_list (cond b None (Some (index - imported_functions m.imports))))
     by true e = tt
     by false e =
-        let le : count_imported m ≤ index = grind (arith, nat_tests) in
-        let place : count_imported m + (index - count_imported m) ≡ index = omega (arith, le) in
-        (record { at = defined_at m formed valid (index - count_imported m) _ (ap (λ (k : ℕ). function_type m k) place ∙ is) }, tt)
+        let le : imported_functions m.imports ≤ index = grind (arith, nat_tests) in
+        let place : imported_functions m.imports + (index - imported_functions m.imports) ≡ index = omega (arith, le) in
+        (record { at = defined_at m formed valid (index - imported_functions m.imports) _ (ap (λ (k : ℕ). function_type m k) place ∙ is) }, tt)
 
 start_is_fine : (m : Module) → start_walk m ≡ Ok tt → start_rule m m.start ≡ None
 unfolding start_walk

@@ -10,6 +10,7 @@ use Rattle.wasm_ops.specs.declared.modules.Import.{Import}
 use Rattle.wasm_ops.specs.declared.modules.Module.{Module}
 use Rattle.wasm_ops.specs.declared.types.FuncType.{FuncType}
 use Rattle.wasm_ops.specs.declared.types.Limits.{Limits}
+use Rattle.wasm_ops.specs.Limits.{imported_functions}
 use Rattle.wasm_ops.specs.Sequence.{Done}
 use Rattle.wasm_ops.specs.WellFormed.{IsWellFormed}
 use Rattle.wasm_meaning.specs.declared.links.Unlinked.{Unlinked}
@@ -20,7 +21,6 @@ use Rattle.wasm_meaning.specs.Pending.{Pending, entering}
 use Rattle.wasm_meaning.specs.State.{Function, Instance, Store, State}
 use Rattle.wasm_meaning.specs.Typing.{nested_body, height_of, nest_of}
 use Rattle.wasm_meaning.specs.Validity.{module_walk}
-use Rattle.wasm_meaning.specs.ValiditySpaces.{count_imported}
 use Rattle.wasm_meaning.specs.Values.{Value, value_of}
 
 -- a program: the module that was linked, and the pages that it was given
@@ -145,7 +145,7 @@ fresh_state m body = record {
 
 -- the number of the body of a function that is not imported
 abbrev pub body_number : Module → (index : ℕ) → Option ℕ
-body_number m index = if nat_lt index (count_imported m) then None else Some (index - count_imported m)
+body_number m index = if nat_lt index (imported_functions m.imports) then None else Some (index - imported_functions m.imports)
 
 abbrev pub start_body : Module → Option ℕ
 start_body m = option_and_then (body_number m) m.start

@@ -1,5 +1,6 @@
 -- The index spaces of a module, in which imported items come first (WebAssembly Core 1.0, section 2.5.1).
-use Rattle.std.specs.Prelude.{ℕ, ◌+◌, List, ◌++◌, length, map, filter_map, slice_get, Option, Some, None, option_and_then}
+use Rattle.std.specs.Prelude.{ℕ, ◌+◌, List, ◌++◌, map, filter_map, slice_get, Option, Some, None, option_and_then}
+use Rattle.wasm_ops.specs.Limits.{imported_functions}
 use Rattle.wasm_ops.specs.declared.types.FuncType.{FuncType}
 use Rattle.wasm_ops.specs.declared.types.Limits.{Limits}
 use Rattle.wasm_ops.specs.declared.modules.Module.{Module}
@@ -46,14 +47,10 @@ memories m = imported as_memory m.imports ++ m.memories
 abbrev pub globals : Module → List GlobalType
 globals m = imported as_global m.imports ++ map defined_global m.globals
 
--- how many functions are imported: a body's function comes behind these
-abbrev pub count_imported : Module → ℕ
-count_imported m = length (imported as_function m.imports)
-
 -- the type of the function with this index
 abbrev pub function_type : Module → (index : ℕ) → Option FuncType
 function_type m index = option_and_then (slice_get m.types) (slice_get (functions m) index)
 
--- the type of the function that has this body
+-- the type of the function that has this body: it comes behind the imported ones
 abbrev pub body_type : Module → (body : ℕ) → Option FuncType
-body_type m body = function_type m (count_imported m + body)
+body_type m body = function_type m (imported_functions m.imports + body)

@@ -2,6 +2,7 @@
 use Rattle.std.proofs.Common.{◌≡◌, ℕ, ◌+◌, ◌-◌, ◌≤◌, ◌==◌, Bool, true, false, cond, not, nat_lt, List, [], ◌∷◌, ◌++◌, Option, Some, None, Ok, refl, ap, ◌∙◌, option_and_then, option_map, option_to_list, arith}
 use Rattle.std.proofs.lemmas.Bool.Decides.{nat_tests}
 use Rattle.std.specs.Prelude.{unwrap_or}
+use Rattle.wasm_ops.specs.Limits.{imported_functions}
 use Rattle.wasm_ops.specs.WellFormed.{IsWellFormed}
 use Rattle.wasm_ops.specs.declared.modules.Export.{Export}
 use Rattle.wasm_ops.specs.declared.modules.Module.{Module}
@@ -12,7 +13,7 @@ use Rattle.wasm_meaning.specs.Linking.{first_refused, import_refusal, told_at, i
 use Rattle.wasm_meaning.specs.Pending.{entering}
 use Rattle.wasm_meaning.specs.Programs.{Program, IsProgram, body_number, start_body, entry_body, entries}
 use Rattle.wasm_meaning.specs.Validity.{is_bare, entered_rule, start_rule, imports_walk, functions_walk, tables_walk, memories_walk, globals_walk, exports_walk, start_walk, elements_walk, segments_walk, bodies_walk, outside_walk, module_walk}
-use Rattle.wasm_meaning.specs.ValiditySpaces.{count_imported, function_type}
+use Rattle.wasm_meaning.specs.ValiditySpaces.{function_type}
 use Rattle.wasm_meaning.proofs.ModuleFacts.{and_both, not_false, passes_both, keeps_rule, no_rule, none_of_all, not_told, holds_unless, nothing_taken}
 use Rattle.wasm_meaning.proofs.SafeInstances.{defined_at}
 use Rattle.wasm_pending.specs.Typed.{OnlyEntries}
@@ -48,14 +49,14 @@ bare = record { params = []; result = None }
 bare_entry
     : (m : Module) → IsWellFormed m → module_walk m ≡ Ok tt → (index : ℕ) → function_type m index ≡ Some bare
     → OnlyEntries m (entering (option_to_list (body_number m index)))
-bare_entry m formed valid index is = by (nat_lt index (count_imported m)) refl
+bare_entry m formed valid index is = by (nat_lt index (imported_functions m.imports)) refl
   where
-    by : (b : Bool) → nat_lt index (count_imported m) ≡ b → OnlyEntries m (entering (option_to_list (cond b None (Some (index - count_imported m)))))
+    by : (b : Bool) → nat_lt index (imported_functions m.imports) ≡ b → OnlyEntries m (entering (option_to_list (cond b None (Some (index - imported_functions m.imports)))))
     by true e = tt
     by false e =
-        let le : count_imported m ≤ index = grind (arith, nat_tests) in
-        let place : count_imported m + (index - count_imported m) ≡ index = omega (arith, le) in
-        let d = defined_at m formed valid (index - count_imported m) bare (ap (λ (k : ℕ). function_type m k) place ∙ is) in
+        let le : imported_functions m.imports ≤ index = grind (arith, nat_tests) in
+        let place : imported_functions m.imports + (index - imported_functions m.imports) ≡ index = omega (arith, le) in
+        let d = defined_at m formed valid (index - imported_functions m.imports) bare (ap (λ (k : ℕ). function_type m k) place ∙ is) in
         (record { runs = d.function; is = d.is; no_params = d.fits.params_are; no_result = d.fits.result_is }, tt)
 
 start_is_fine : (m : Module) → start_walk m ≡ Ok tt → start_rule m m.start ≡ None

@@ -3,6 +3,7 @@ use Rattle.std.proofs.Common.{◌≡◌, ℕ, zero, suc, ◌+◌, ◌-◌, ◌*�
 use Rattle.std.proofs.lemmas.Bool.Decides.{nat_tests}
 use Rattle.std.proofs.lemmas.List.{length-replicate}
 use Rattle.std.specs.List.{AllByRecursion, list_all, cons_option}
+use Rattle.wasm_ops.specs.Limits.{imported_functions}
 use Rattle.wasm_ops.specs.WellFormed.{IsGlobal}
 use Rattle.wasm_ops.specs.Values.{IsOfType}
 use Rattle.wasm_ops.specs.declared.modules.ByteSegment.{ByteSegment}
@@ -25,11 +26,11 @@ use Rattle.wasm_meaning.specs.Linking.{first_refused, import_refusal, item_refus
 use Rattle.wasm_meaning.specs.Programs.{Program, IsProgram, limited_to, greatest, most, first_global, with_segments, first_memory, laid, with_elements, first_table, fresh_store, first}
 use Rattle.wasm_meaning.specs.Validity.{is_unknown, are_known, is_above, exceeds, most_pages, function_rule, memory_rule, global_rule, element_rule, has_memory, functions_walk, memories_walk, globals_walk, elements_walk, module_walk}
 use Rattle.wasm_meaning.specs.TypingOperands.{same_type}
-use Rattle.wasm_meaning.specs.ValiditySpaces.{as_function, as_global, imported, functions, tables, globals, defined_global, count_imported}
+use Rattle.wasm_meaning.specs.ValiditySpaces.{as_global, imported, functions, tables, globals, defined_global}
 use Rattle.wasm_meaning.specs.Values.{value_of, has_type}
 use Rattle.wasm_meaning.proofs.Fits.{same_types_equal, has_value_of}
 use Rattle.wasm_meaning.proofs.MemoryLaws.{length-with_bytes}
-use Rattle.wasm_meaning.proofs.ModuleFacts.{At, get_at, get_behind, all_at, all_joined, all_taken, all_dropped, and_both, not_false, below_of, is_less, each_keeps, keeps_rule, none_of_all, not_told, first_is_fine, holds_unless}
+use Rattle.wasm_meaning.proofs.ModuleFacts.{At, get_at, get_defined, all_at, all_joined, all_taken, all_dropped, and_both, not_false, below_of, is_less, each_keeps, keeps_rule, none_of_all, not_told, first_is_fine, holds_unless}
 use Rattle.wasm_meaning.proofs.SafeInstances.{imports_link, imported_has_type}
 use Rattle.wasm_pending.proofs.Entries.{walks, entries_enter}
 use Rattle.wasm_pending.specs.Typed.{IsRanged, AreRanged, MemoryWithin, StoreTyped, Idle}
@@ -133,17 +134,17 @@ function_has_type : (m : Module) (pages : ℕ) → module_walk m ≡ Ok tt → l
 function_has_type m pages valid links index below = of_index (get_at (functions m) index below)
   where
     of_index : At (functions m) index → HasType m index
-    of_index a = by (nat_lt index (count_imported m)) refl
+    of_index a = by (nat_lt index (imported_functions m.imports)) refl
       where
-        by : (b : Bool) → nat_lt index (count_imported m) ≡ b → HasType m index
-        by true e = imported_has_type m pages links index (is_less index (count_imported m) e)
+        by : (b : Bool) → nat_lt index (imported_functions m.imports) ≡ b → HasType m index
+        by true e = imported_has_type m pages links index (is_less index (imported_functions m.imports) e)
         by false e =
-            let le : count_imported m ≤ index = grind (arith, nat_tests) in
-            let place : count_imported m + (index - count_imported m) ≡ index = omega (arith, le) in
-            let own : slice_get m.functions (index - count_imported m) ≡ Some a.item
-            = sym (get_behind (imported as_function m.imports) m.functions (index - count_imported m))
+            let le : imported_functions m.imports ≤ index = grind (arith, nat_tests) in
+            let place : imported_functions m.imports + (index - imported_functions m.imports) ≡ index = omega (arith, le) in
+            let own : slice_get m.functions (index - imported_functions m.imports) ≡ Some a.item
+            = sym (get_defined m (index - imported_functions m.imports))
             ∙ ap (λ (k : ℕ). slice_get (functions m) k) place ∙ a.is in
-            typed_at m index a.item a.is (type_is_known m (walks m valid).functions_pass (index - count_imported m) a.item own)
+            typed_at m index a.item a.is (type_is_known m (walks m valid).functions_pass (index - imported_functions m.imports) a.item own)
 
 -- Memory.
 

@@ -1,5 +1,6 @@
 -- Each function that a program defines is typed, with the height and the nesting that it is counted with.
 use Rattle.std.proofs.Common.{◌≡◌, ℕ, zero, suc, ◌+◌, ◌≤◌, List, [], ◌∷◌, Option, Some, None, Result, Ok, slice_get, refl, sym, ap, subst, ◌∙◌, option_and_then, arith}
+use Rattle.wasm_ops.specs.Limits.{imported_functions}
 use Rattle.wasm_ops.specs.declared.modules.Body.{Body}
 use Rattle.wasm_ops.specs.declared.modules.Module.{Module}
 use Rattle.wasm_ops.specs.declared.types.FuncType.{FuncType}
@@ -11,9 +12,9 @@ use Rattle.wasm_meaning.specs.Typing.{ended, body_typed, most_of, height_of, dep
 use Rattle.wasm_meaning.specs.TypingOperands.{Walk}
 use Rattle.wasm_meaning.specs.Validity.{typed_in, body_walk, next_body, bodies_walk, outside_walk, module_walk}
 use Rattle.wasm_meaning.specs.ValidityChecks.{go_on}
-use Rattle.wasm_meaning.specs.ValiditySpaces.{as_function, imported, functions, count_imported, body_type}
+use Rattle.wasm_meaning.specs.ValiditySpaces.{functions, body_type}
 use Rattle.wasm_meaning.proofs.Fits.{given_some}
-use Rattle.wasm_meaning.proofs.ModuleFacts.{get_behind, passes_both, each_checked}
+use Rattle.wasm_meaning.proofs.ModuleFacts.{get_defined, passes_both, each_checked}
 use Rattle.wasm_meaning.proofs.Ready.{TypedFunction}
 use Rattle.wasm_meaning.proofs.SafeInstances.{defined_at}
 use Rattle.wasm_pending.proofs.Grows.{ended_same}
@@ -67,7 +68,7 @@ measured program is j f known =
     let checked = each_checked (next_body m) m.bodies j g.body bodies g.body_is in
     let passes : body_walk m j g.body ≡ Ok tt = subst (λ (k : ℕ). body_walk m k g.body ≡ Ok tt) checked.place checked.passes in
     let t = typed_type m j g.body (body_type m j) passes in
-    let index_is : slice_get (functions m) (count_imported m + j) ≡ Some g.index = get_behind (imported as_function m.imports) m.functions j ∙ g.type_is in
+    let index_is : slice_get (functions m) (imported_functions m.imports + j) ≡ Some g.index = get_defined m j ∙ g.type_is in
     let type_is : slice_get m.types g.index ≡ Some t.0 = sym (ap (λ (o : Option ℕ). option_and_then (slice_get m.types) o) index_is) ∙ t.1 in
     let d = defined_at m is.formed is.valid j t.0 t.1 in
     let same : d.function ≡ f = given_some d.function f (slice_get (defined m) j) d.is known in

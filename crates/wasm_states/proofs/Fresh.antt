@@ -5,6 +5,7 @@ use Rattle.wasm_ops.specs.declared.modules.Body.{Body}
 use Rattle.wasm_ops.specs.declared.modules.Module.{Module}
 use Rattle.wasm_ops.specs.declared.operators.Op.{Op}
 use Rattle.wasm_ops.specs.declared.operators.Op.TheVariants.{End}
+use Rattle.wasm_ops.specs.Limits.{imported_functions}
 use Rattle.wasm_ops.specs.Sequence.{flat}
 use Rattle.wasm_ops.specs.declared.host_calls.HostName.{HostName}
 use Rattle.wasm_ops.specs.declared.host_calls.HostName.TheVariants.{FdRead, FdWrite, ProcExit}
@@ -17,7 +18,7 @@ use Rattle.wasm_meaning.specs.Linking.{link_refusal, first_refused, import_refus
 use Rattle.wasm_meaning.specs.Pending.{entering}
 use Rattle.wasm_meaning.specs.Programs.{Program, IsProgram, first, most, start_body, entry_body, body_number, hosts, instance_of}
 use Rattle.wasm_meaning.specs.Validity.{is_bare}
-use Rattle.wasm_meaning.specs.ValiditySpaces.{count_imported, function_type}
+use Rattle.wasm_meaning.specs.ValiditySpaces.{function_type}
 use Rattle.wasm_meaning.proofs.ModuleFacts.{get_at, get_behind, and_both, is_less, none_of_all, not_told, holds_unless, nothing_taken}
 use Rattle.wasm_meaning.proofs.Ready.{CalleeFits}
 use Rattle.wasm_meaning.proofs.SafeInstances.{as_many_hosts, instance_fits}
@@ -46,10 +47,10 @@ no_bare_host FdRead e = let same = ap (λ (t : FuncType). t.params) e in let bad
 no_bare_host FdWrite e = let same = ap (λ (t : FuncType). t.params) e in let bad : ⊥ = cc in bad
 no_bare_host ProcExit e = let same = ap (λ (t : FuncType). t.params) e in let bad : ⊥ = cc in bad
 
-not_imported : (p : Program) → IsProgram p → (index : ℕ) → function_type p.linked index ≡ Some bare → nat_lt index (count_imported p.linked) ≡ true → ⊥
+not_imported : (p : Program) → IsProgram p → (index : ℕ) → function_type p.linked index ≡ Some bare → nat_lt index (imported_functions p.linked.imports) ≡ true → ⊥
 not_imported p is index has below =
     let many = as_many_hosts p.linked p.pages is.links in
-    let lt = is_less index (count_imported p.linked) below in
+    let lt = is_less index (imported_functions p.linked.imports) below in
     let name = get_at (hosts p.linked) index (omega (arith, many, lt)) in
     let callee = (instance_fits p is).callees index bare has in
     let found : callee_at (instance_of p) index ≡ Some (Host name.item) = ap (λ (o : Option HostName). imported_or o (instance_of p) index) name.is in
@@ -71,14 +72,14 @@ has_entry p is = by (export_named entry_name p.linked.exports) refl (entry_is_fi
         → unwrap_or (option_map is_bare o) false ≡ true → HasEntry p.linked
     typed_entry export None named has e = let bad : ⊥ = cc in absurd bad
     typed_entry export (Some t) named has e =
-        own (nat_lt export.index (count_imported p.linked)) refl (has ∙ ap (λ (u : FuncType). Some u) (nothing_taken t e))
+        own (nat_lt export.index (imported_functions p.linked.imports)) refl (has ∙ ap (λ (u : FuncType). Some u) (nothing_taken t e))
       where
-        own : (b : Bool) → nat_lt export.index (count_imported p.linked) ≡ b → function_type p.linked export.index ≡ Some bare → HasEntry p.linked
+        own : (b : Bool) → nat_lt export.index (imported_functions p.linked.imports) ≡ b → function_type p.linked export.index ≡ Some bare → HasEntry p.linked
         own true below typed_bare = absurd (not_imported p is export.index typed_bare below)
         own false below typed_bare = record {
-          body = export.index - count_imported p.linked;
+          body = export.index - imported_functions p.linked.imports;
           is = ap (λ (o : Option Export). option_and_then (body_number p.linked) (option_map (λ (x : Export). x.index) o)) named
-              ∙ ap (λ (b : Bool). cond b None (Some (export.index - count_imported p.linked))) below;
+              ∙ ap (λ (b : Bool). cond b None (Some (export.index - imported_functions p.linked.imports))) below;
         }
 
     by : (o : Option Export) → export_named entry_name p.linked.exports ≡ o → entry_refusal p.linked o ≡ None → HasEntry p.linked

@@ -1,8 +1,9 @@
 //! A module with its index spaces, in which imported items come first (WebAssembly Core 1.0, section 2.5.1).
 ghost use Rattle.std.specs.Prelude.{◌≡◌, ◌+◌, ◌≤◌, ◌<◌, ◌^◌, ◌++◌, length, map, is_some, slice_get, option_copied, option_to_list, IfOk, OnOk};
 ghost use Rattle.std.specs.List.{list_any};
+ghost use Rattle.wasm_ops.specs.Limits.{imported_functions};
 ghost use Rattle.wasm_meaning.specs.Typing.{has_any};
-ghost use Rattle.wasm_meaning.specs.ValiditySpaces.{as_function, as_table, as_memory, as_global, imported, count_imported, functions, tables, memories, globals, function_type, body_type, defined_global};
+ghost use Rattle.wasm_meaning.specs.ValiditySpaces.{as_function, as_table, as_memory, as_global, imported, functions, tables, memories, globals, function_type, body_type, defined_global};
 
 use std::alloc::{AllocError, AllocFailed, Global};
 use std::marker::Model;
@@ -113,7 +114,8 @@ fn imported_globals(alloc: Global, imports: &[Import]) -> Result<Vec<GlobalType>
     Ok(all)
 }
 
-fn count_functions(imports: &[Import]) -> usize
+// As many as there are in front of the index space.
+fn functions_found(imports: &[Import]) -> usize
     ensures count { result ≡ length (imported as_function imports.now) }
     ensures few { result ≤ length imports.now }
 {
@@ -121,6 +123,15 @@ fn count_functions(imports: &[Import]) -> usize
         .iter()
         .filter_map(|import| as_function(&import.item))
         .count()
+}
+
+// The same, as the limit on functions counts them.
+#[tactic(auto, using(wasm_meaning::proofs::ModuleFacts::imported_count))]
+fn count_functions(imports: &[Import]) -> usize
+    ensures count { result ≡ imported_functions imports.now }
+    ensures few { result ≤ length imports.now }
+{
+    functions_found(imports)
 }
 
 fn count_tables(imports: &[Import]) -> usize
@@ -189,7 +200,7 @@ impl Indexed {
 
     /// How many functions are imported.
     pub fn imported(&self) -> u32
-        ensures { result ≡ count_imported self.now }
+        ensures { result ≡ imported_functions self.now.imports }
     {
         self.imported
     }

@@ -1,8 +1,9 @@
 //! Valid modules.
 ghost use Rattle.std.specs.Prelude.{◌≡◌, ◌<◌, Ok, IfOk, length, option_copied};
 ghost use Rattle.wasm_meaning.specs.Validity.{IsValid, outside_walk as outside_due, module_walk as module_due, body_height, body_nest};
-ghost use Rattle.wasm_meaning.specs.ValiditySpaces.{body_type, count_imported, function_type};
+ghost use Rattle.wasm_meaning.specs.ValiditySpaces.{body_type, function_type};
 ghost use Rattle.wasm_meaning.specs.declared.violations.Broken.{Broken as BrokenValue};
+ghost use Rattle.wasm_ops.specs.Limits.{imported_functions};
 ghost use Rattle.wasm_ops.specs.WellFormed.{IsWellFormed};
 ghost use Rattle.wasm_validate.specs.Measured.{AreMeasured};
 ghost use Rattle.wasm_validate.specs.Outcome.{Gives, IsAnswered, TellsBroken};
@@ -68,7 +69,7 @@ impl Valid {
 
     /// How many functions are imported, before those that have a body.
     pub fn imported(&self) -> u32
-        ensures { result ≡ count_imported self.now }
+        ensures { result ≡ imported_functions self.now.imports }
     {
         self.indexed.imported()
     }

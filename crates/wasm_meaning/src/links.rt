@@ -2,7 +2,7 @@
 ghost use Rattle.std.specs.Prelude.{◌≡◌};
 ghost use Rattle.wasm_meaning.specs.LinkRules.{link_number};
 
-/// A rule of linking.
+/// A rule of linking, which is named by how it is broken.
 #[derive(Clone, Copy, Debug, PartialEq, Eq)]
 pub enum LinkRule {
     /// An imported function is one of the host's.

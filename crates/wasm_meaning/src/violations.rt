@@ -2,7 +2,7 @@
 ghost use Rattle.std.specs.Prelude.{◌≡◌};
 ghost use Rattle.wasm_meaning.specs.ValidityRules.{rule_number};
 
-/// A rule of validation.
+/// A rule of validation, which is named by how it is broken.
 #[derive(Clone, Copy, Debug, PartialEq, Eq)]
 pub enum Rule {
     /// There is an item with each index that is named, and a table or a memory where an operator needs one.

@@ -32,6 +32,8 @@ pub enum HostStep {
 /// Makes a call of the host that a vessel asks for, with so many units left.
 ///
 /// The operands of the vessel are the call's arguments, the last one on top, and, where the call went through the table, the index there on them. A call that comes back takes them off, lays the error number and goes past the call, whether it succeeded or not; an error has no other effect. It is made whole or, where its price is more than what is left, not at all.
+///
+/// It is asked that the place behind the call is below 2^32, so that the code can go there: `step` gives this with each call, since no body is so long.
 pub fn host(call: HostCall, vessel: &mut Vessel, streams: &mut Streams, left: u64) -> HostStep
     requires can { CanCall call vessel.old }
     ensures answers { HostAnswers call left (effect_of call vessel.old streams.old) vessel.old vessel.new streams.old streams.new result }

@@ -198,14 +198,14 @@ host_goes p v call o rest around st to host h r a =
 asks_with
     : (p : Program) (v : View) (call : HostCall) (o : Op) (rest : Sequence) (around : List Around) (st before : State) (cells low : List ℕ)
     → Holds p v (pending_at (Plain o rest) around st) → Running p v (pending_at (Plain o rest) around st)
-    → CanCall call v → low ≡ cells_under st.frame.locals around
+    → CanCall call v → length call.args ≡ 4 → low ≡ cells_under st.frame.locals around
     → drop (places_of call.indirect) v.cells ≡ numbers before.operands ++ low → before.store ≡ st.store
     → (taken : Arguments) → take_arguments (host_type call.name).params before.operands ≡ Some taken
     → effect (instance_of p) o st ≡ asks call.name (take_arguments (host_type call.name).params before.operands) before
     → AsksWith p v call o rest around st (with_operands before taken.under) (host_effect call.name (numbers taken.arguments) before.store.memory before.store.streams)
-asks_with p v call o rest around st before cells low h r can low_is cells_are store taken takes asks_is =
+asks_with p v call o rest around st before cells low h r can four low_is cells_are store taken takes asks_is =
     let lie = arguments_lie call before.operands low taken takes (ap (λ (ns : List ℕ). take (arguments_of call) ns) (sym cells_are) ∙ can.arguments) in
-    let same = same_effect call.name call.args (numbers taken.arguments) v.memory st.store.streams can.four lie.given in
+    let same = same_effect call.name call.args (numbers taken.arguments) v.memory st.store.streams four lie.given in
     record {
       asks = asks_is ∙ ap (λ (x : Option Arguments). asks call.name x before) takes;
       host_is = ap (λ (s : Store). host_effect call.name (numbers taken.arguments) s.memory s.streams) store
@@ -234,8 +234,8 @@ plain_asks p v o call at plain can each = record {
 -- a call by the function's index
 pub call_asks
     : (p : Program) (v : View) (index : ℕ) (call : HostCall) → op_at p v ≡ Some (Call index) → callee_at (instance_of p) index ≡ Some (Host call.name)
-    → call.indirect ≡ false → CanCall call v → IsHost p v call
-call_asks p v index call at callee direct can =
+    → call.indirect ≡ false → length call.args ≡ 4 → CanCall call v → IsHost p v call
+call_asks p v index call at callee direct four can =
     plain_asks p v (Call index) call at refl can (λ rest around st h r. by rest around st h r (take_arguments (host_type call.name).params st.operands) refl)
   where
     is : (st : State) → effect (instance_of p) (Call index) st ≡ asks call.name (take_arguments (host_type call.name).params st.operands) st
@@ -248,7 +248,7 @@ call_asks p v index call at callee direct can =
         absurd (never_breaks p h.program v.function (Call index) rest around st r.typing (is st ∙ ap (λ (x : Option Arguments). asks call.name x st) none))
     by rest around st h r (Some taken) takes =
         host_goes p v call (Call index) rest around st (with_operands st taken.under) (host_effect call.name (numbers taken.arguments) st.store.memory st.store.streams) h r
-        (asks_with p v call (Call index) rest around st st v.cells (cells_under st.frame.locals around) h r can refl
+        (asks_with p v call (Call index) rest around st st v.cells (cells_under st.frame.locals around) h r can four refl
         (ap (λ (b : Bool). drop (places_of b) v.cells) direct ∙ r.cells) refl taken takes (is st))
 
 -- The table.
@@ -288,8 +288,8 @@ indirect_top p v type place rest around st top h r (Some taken) takes =
 pub indirect_asks
     : (p : Program) (v : View) (type place index : ℕ) (wanted : FuncType) (call : HostCall) → op_at p v ≡ Some (CallIndirect type)
     → FindsElement p v type place index (Host call.name) wanted → same_function_type wanted (host_type call.name) ≡ true
-    → call.indirect ≡ true → CanCall call v → IsHost p v call
-indirect_asks p v type place index wanted call at f same through can =
+    → call.indirect ≡ true → length call.args ≡ 4 → CanCall call v → IsHost p v call
+indirect_asks p v type place index wanted call at f same through four can =
     plain_asks p v (CallIndirect type) call at refl can (λ rest around st h r.
     let t = indirect_top p v type place rest around st f.top h r (take_i32 st.operands) refl in
     by rest around st h r t.0 t.1 t.2 t.3 (take_arguments (host_type call.name).params t.0.under) refl)
@@ -305,5 +305,5 @@ indirect_asks p v type place index wanted call at f same through can =
         let is = indirect_is p v type place index (Host call.name) wanted st top true f h.store.table takes_top number same in
         let before = with_operands st top.under in
         host_goes p v call (CallIndirect type) rest around st (with_operands before taken.under) (host_effect call.name (numbers taken.arguments) before.store.memory before.store.streams) h r
-        (asks_with p v call (CallIndirect type) rest around st before (drop 1 v.cells) (cells_under st.frame.locals around) h r can refl
+        (asks_with p v call (CallIndirect type) rest around st before (drop 1 v.cells) (cells_under st.frame.locals around) h r can four refl
         (ap (λ (b : Bool). drop (places_of b) v.cells) through ∙ cells) refl taken takes is)

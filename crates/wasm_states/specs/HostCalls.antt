@@ -42,7 +42,6 @@ after_host call host v = record v {
 pub record CanCall (call : HostCall) (v : View) : Type 0 where
   pub live : 0 < length v.frames
   pub place : v.place + 1 < 2 ^ 32
-  pub four : length call.args ≡ 4
   pub enough : cells_taken call ≤ length v.cells
   pub arguments : take (arguments_of call) (drop (places_of call.indirect) v.cells) ≡ reverse (take (arguments_of call) call.args)
 

@@ -47,7 +47,7 @@ use Rattle.wasm_step.proofs.Shapes.{number_ranged}
 use Rattle.wasm_step.proofs.VariableMoves.{live_frame}
 use Rattle.wasm_step.specs.Arguments.{count_of, ArgumentsThere, AreArguments, Enters, Asks}
 use Rattle.wasm_step.specs.Arms.{before, IsAt}
-use Rattle.wasm_step.specs.Asking.{host_of, host_through, element_on_top, asked_by, host_next}
+use Rattle.wasm_step.specs.Asking.{host_of, host_through, element_on_top, asked_by, host_next, goes_through_table}
 use Rattle.wasm_step.specs.Does.{Calls}
 use Rattle.wasm_step.specs.declared.answers.Step.{Step}
 use Rattle.wasm_step.specs.declared.answers.Step.TheVariants as step
@@ -71,13 +71,19 @@ can_call p v o at plain call name indirect name_is through are there =
     record {
       live = live_frame p v o at plain;
       place = place_fits p (before v) o at.state at.here;
-      four = are.four;
       enough = omega (arith, enough, taken);
       arguments = ap (λ (n : HostName). take (count_of n) (drop (places_of call.indirect) v.cells)) name_is
           ∙ ap (λ (b : Bool). take (count_of name) (drop (places_of b) v.cells)) through
           ∙ are.are
           ∙ ap (λ (n : HostName). reverse (take (count_of n) call.args)) (sym name_is);
     }
+
+-- the arguments that the function has not
+others_as
+    : (call : HostCall) (name : HostName) (under : ℕ) (cells : List ℕ) → call.name ≡ name → AreArguments name under cells call.args
+    → drop (arguments_of call) call.args ≡ zeros (4 - arguments_of call)
+others_as call name under cells name_is are =
+    subst (λ (n : HostName). drop (count_of n) call.args ≡ zeros (4 - count_of n)) (sym name_is) are.others
 
 -- Functions.
 
@@ -250,8 +256,12 @@ module _ (p : Program) (v : View) (index : ℕ) (at : IsAt p v (op.Call index)) 
       let name_is = asked.1 in
       let can = can_call p v (op.Call index) at refl call name false name_is asked.2 asked.3 there in (
         asked.0,
-        call_asks p (before v) index call at.here (host_as p index name e ∙ ap (λ (n : HostName). Some (Host n)) (sym name_is)) asked.2 can,
-        ap (λ (x : Option Op). asked_by p (before v) x) at.here ∙ ap (λ (x : Option Kept). host_of x) e ∙ ap (λ (n : HostName). Some n) (sym name_is),
+        call_asks p (before v) index call at.here (host_as p index name e ∙ ap (λ (n : HostName). Some (Host n)) (sym name_is)) asked.2 asked.3.four can,
+        record {
+          name_is = ap (λ (x : Option Op). asked_by p (before v) x) at.here ∙ ap (λ (x : Option Kept). host_of x) e ∙ ap (λ (n : HostName). Some n) (sym name_is);
+          indirect_is = asked.2 ∙ sym (ap (λ (o : Option Op). goes_through_table o) at.here);
+          others = others_as call name (places_of false) v.cells name_is asked.3;
+        },
       )
   call_hosts name v' (step.Went price) e asked = absurd asked
   call_hosts name v' (step.Trapped trap price) e asked = absurd asked
@@ -397,8 +407,12 @@ module _ (p : Program) (v : View) (type : ℕ) (at : IsAt p v (op.CallIndirect t
         asked.0,
         indirect_asks p (before v) type e.place index e.there.wanted call at.here
             (finds_as index e (Host call.name) (callee ∙ ap (λ (n : HostName). Some (Host n)) (sym name_is)))
-            (ap (λ (n : HostName). same_function_type e.there.wanted (host_type n)) name_is ∙ same_is) asked.2 can,
-        indirect_next index e true same ∙ ap (λ (x : Option Kept). host_of x) is ∙ ap (λ (n : HostName). Some n) (sym name_is),
+            (ap (λ (n : HostName). same_function_type e.there.wanted (host_type n)) name_is ∙ same_is) asked.2 asked.3.four can,
+        record {
+          name_is = indirect_next index e true same ∙ ap (λ (x : Option Kept). host_of x) is ∙ ap (λ (n : HostName). Some n) (sym name_is);
+          indirect_is = asked.2 ∙ sym (ap (λ (o : Option Op). goes_through_table o) at.here);
+          others = others_as call name (places_of true) v.cells name_is asked.3;
+        },
       )
   indirect_hosts index name v' (step.Went price) e same is asked = absurd asked
   indirect_hosts index name v' (step.Trapped trap price) e same is asked = absurd asked

@@ -1,7 +1,8 @@
 -- What a call finds on top of the cells, and what it makes of a vessel.
-use Rattle.std.specs.Prelude.{◌≡◌, ℕ, ◌+◌, ◌<◌, ◌≤◌, ◌^◌, Bool, true, false, List, length, take, drop, reverse, Some, slice_get}
+use Rattle.std.specs.Prelude.{◌≡◌, ℕ, ◌+◌, ◌-◌, ◌<◌, ◌≤◌, ◌^◌, Bool, true, false, List, length, take, drop, reverse, Some, slice_get}
 use Rattle.wasm_ops.specs.declared.host_calls.HostName.{HostName}
 use Rattle.wasm_ops.specs.declared.traps.Trap.TheVariants.{StackExhausted}
+use Rattle.wasm_meaning.specs.Bytes.{zeros}
 use Rattle.wasm_meaning.specs.HostCalls.{host_type}
 use Rattle.wasm_store.specs.View.{View}
 use Rattle.wasm_instance.specs.declared.callees.Shape.{Shape}
@@ -20,10 +21,11 @@ pub record ArgumentsThere (name : HostName) (under : ℕ) (cells : List ℕ) : T
   pub enough : under + count_of name ≤ length cells
   pub small : (k number : ℕ) → k < count_of name → slice_get cells (under + k) ≡ Some number → number < 2 ^ 32
 
--- these are the arguments, the first one first
+-- these are the arguments, the first one first, and 0 for those that it has not
 pub record AreArguments (name : HostName) (under : ℕ) (cells args : List ℕ) : Type 0 where
   pub four : length args ≡ 4
   pub are : take (count_of name) (drop under cells) ≡ reverse (take (count_of name) args)
+  pub others : drop (count_of name) args ≡ zeros (4 - count_of name)
 
 -- a body is entered where there is room for it, and else the call traps
 abbrev pub Enters : (v : View) → (body : ℕ) → Shape → (v' : View) → Step → Type 0

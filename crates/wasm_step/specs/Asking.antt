@@ -1,11 +1,14 @@
 -- Which function of the host the next operator calls, if it calls one.
-use Rattle.std.specs.Prelude.{◌≡◌, ℕ, if◌then◌else◌, List, Option, Some, None, slice_get}
+use Rattle.std.specs.Prelude.{◌≡◌, ℕ, ◌-◌, Bool, true, false, if◌then◌else◌, List, drop, Option, Some, None, slice_get}
+use Rattle.wasm_ops.specs.declared.host_calls.HostCall.{HostCall}
 use Rattle.wasm_ops.specs.declared.host_calls.HostName.{HostName}
 use Rattle.wasm_ops.specs.declared.operators.Op.{Op}
 use Rattle.wasm_ops.specs.declared.operators.Op.TheVariants.{Call, CallIndirect}
+use Rattle.wasm_meaning.specs.Bytes.{zeros}
 use Rattle.wasm_meaning.specs.Programs.{Program}
 use Rattle.wasm_store.specs.View.{View}
 use Rattle.wasm_states.specs.Codes.{op_at}
+use Rattle.wasm_states.specs.HostCalls.{arguments_of}
 use Rattle.wasm_instance.specs.Callees.{called, is_of_type}
 use Rattle.wasm_instance.specs.declared.callees.Callee.{Callee}
 use Rattle.wasm_instance.specs.declared.callees.Callee.TheVariants.{Host, Defined}
@@ -37,8 +40,19 @@ asked_by p v (Some o) = None
 abbrev pub host_next : Program → View → Option HostName
 host_next p v = asked_by p v (op_at p v)
 
--- a call of the host is answered by its name, and never by want of units
+-- the operator calls through the table
+abbrev pub goes_through_table : Option Op → Bool
+goes_through_table (Some (CallIndirect type)) = true
+goes_through_table o = false
+
+-- the call is the one that the next operator makes: of this function, by its index or through the table; arguments that the function has not are 0
+pub record IsNextCall (p : Program) (v : View) (call : HostCall) : Type 0 where
+  pub name_is : host_next p v ≡ Some call.name
+  pub indirect_is : call.indirect ≡ goes_through_table (op_at p v)
+  pub others : drop (arguments_of call) call.args ≡ zeros (4 - arguments_of call)
+
+-- a call of the host is told, and never answered by want of units
 abbrev pub Asking : Program → View → Step → Type 0
-Asking p v (step.Host call) = host_next p v ≡ Some call.name
+Asking p v (step.Host call) = IsNextCall p v call
 Asking p v step.Short = host_next p v ≡ None
 Asking p v answer = Unit {0}

@@ -9,7 +9,7 @@ use Rattle.wasm_store.specs.View.{View}
 use Rattle.wasm_states.specs.Holding.{Holds, free_moves}
 use Rattle.wasm_states.specs.HostCalls.{IsHost}
 use Rattle.wasm_states.specs.Steps.{Moves, Stops, Pays, Lacks}
-use Rattle.wasm_step.specs.Asking.{host_next}
+use Rattle.wasm_step.specs.Asking.{IsNextCall, host_next}
 use Rattle.wasm_step.specs.declared.answers.Step.{Step}
 use Rattle.wasm_step.specs.declared.answers.Step.TheVariants as step
 
@@ -22,7 +22,7 @@ Ends p v v' answer = ⊥
 
 -- an operator that may ask the host
 abbrev pub Calls : Program → (v v' : View) → Step → Type 0
-Calls p v v' (step.Host call) = (v' ≡ v) × IsHost p v call × (host_next p v ≡ Some call.name)
+Calls p v v' (step.Host call) = (v' ≡ v) × IsHost p v call × IsNextCall p v call
 Calls p v v' (step.Went price) = (price ≡ 1) × Moves p v v' price
 Calls p v v' (step.Trapped trap price) = (price ≡ 1) × Stops p v price (Trapped trap)
 Calls p v v' answer = ⊥
@@ -41,7 +41,7 @@ pub record Shorts (p : Program) (v : View) : Type 0 where
 abbrev pub Does : Program → (most : ℕ) → (v v' : View) → Step → Type 0
 Does p most v v' (step.Went price) = (1 ≤ price) × (price ≤ most) × Moves p v v' price
 Does p most v v' step.Free = Moves p v v' 0 × (free_moves v' < free_moves v)
-Does p most v v' (step.Host call) = (v' ≡ v) × IsHost p v call × (host_next p v ≡ Some call.name)
+Does p most v v' (step.Host call) = (v' ≡ v) × IsHost p v call × IsNextCall p v call
 Does p most v v' (step.Trapped trap price) = (price ≤ most) × Stops p v price (Trapped trap)
 Does p most v v' step.Ended = (v' ≡ v) × Stops p v 0 Fell
 Does p most v v' step.Short = (most ≡ 0) × (v' ≡ v) × Shorts p v × (host_next p v ≡ None)

@@ -46,7 +46,7 @@ loop-price-preserved c =
 pub returns-in-Host-clause-keeps : goal.returns-in-Host-clause-keeps
 returns-in-Host-clause-keeps c =
     let same = c.in-Host.ensures.keeps.0 in
-    let asks = c.in-Host.ensures.asks in (
+    let asks = c.in-Host.ensures.asks.name_is in (
       omega arith,
       subst (λ (x : View). IsState c.args.program.now x) (sym same) c.loop-price.invariant.state,
       (λ none. subst (λ (x : View). free_moves x ≤ free_moves c.args.vessel.now) (sym same) (c.loop-price.invariant.fewer none)),

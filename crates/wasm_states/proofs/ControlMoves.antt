@@ -68,15 +68,15 @@ body_can p v f state at live none =
     let s = done_here r.code.body.ops v.place w.sequence End (place_of p v w r End at) tt in
     (end_goes p v w f state.holds r s live none).can
 
--- a call less is live
-pub leave_frees : (p : Program) (v : View) (f : Frame) → slice_get v.frames 0 ≡ Some f → free_moves (leave_view p v) < free_moves v
-leave_frees p v f live =
+-- a call less is live, in which no block was open
+pub leave_frees : (p : Program) (v : View) (f : Frame) → slice_get v.frames 0 ≡ Some f → length v.labels ≤ f.opened → free_moves v ≡ free_moves (leave_view p v) + 1
+leave_frees p v f live none =
     let lt = fewer v.frames live in
     let fall = length-drop (length v.labels - f.opened) v.labels in
-    let here : free_moves (returned (gives_result p v) f v) < free_moves v = omega (arith, lt, fall) in
-    subst (λ (o : Option Frame). free_moves (leave_from o (gives_result p v) v) < free_moves v) (sym live) here
+    let here : free_moves v ≡ free_moves (returned (gives_result p v) f v) + 1 = omega (arith, lt, fall, none) in
+    subst (λ (o : Option Frame). free_moves v ≡ free_moves (leave_from o (gives_result p v) v) + 1) (sym live) here
   where
-    fewer : (fs : List Frame) → slice_get fs 0 ≡ Some f → length (drop 1 fs) < length fs
+    fewer : (fs : List Frame) → slice_get fs 0 ≡ Some f → length fs ≡ length (drop 1 fs) + 1
     fewer [] e = let bad : ⊥ = cc in absurd bad
     fewer (g ∷ fs) e = omega arith
 

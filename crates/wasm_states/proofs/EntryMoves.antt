@@ -40,7 +40,7 @@ resting_of p v w h none = by h.stands
         let bad : ⊥ = omega (arith, none, lt) in absurd bad
     by (inr rests) = rests
 
-no_frames : (fs : List Frame) → length fs ≡ 0 → fs ≡ []
+pub no_frames : (fs : List Frame) → length fs ≡ 0 → fs ≡ []
 no_frames [] e = refl
 no_frames (f ∷ fs) e = let bad : ⊥ = omega (arith, e) in absurd bad
 
@@ -207,12 +207,16 @@ entry_known p v number state none next =
     is_within (defined p.linked) number b.idle.entries.0.runs b.idle.entries.0.is
 
 -- an entry less is to come
-pub entry_frees : (v : View) (number locals cells : ℕ) → slice_get v.entries 0 ≡ Some number → free_moves (entry_view number locals cells v) < free_moves v
+pub entry_frees : (v : View) (number locals cells : ℕ) → slice_get v.entries 0 ≡ Some number → free_moves v ≡ free_moves (entry_view number locals cells v) + 1
 entry_frees v number locals cells next =
     let n = next_entry v.entries number next in
     let count = ap (λ (es : List ℕ). length es) n.is in
     let fewer = ap (λ (es : List ℕ). length (drop 1 es)) n.is in
     omega (arith, count, fewer)
+
+pub no_entries : (es : List ℕ) → slice_get es 0 ≡ None → es ≡ []
+no_entries [] e = refl
+no_entries (j ∷ es) e = let bad : ⊥ = cc in absurd bad
 
 -- nothing is left to run
 pub all_ended : (p : Program) (v : View) → length v.frames ≡ 0 → slice_get v.entries 0 ≡ None → Stops p v 0 Fell
@@ -223,7 +227,3 @@ all_ended p v none next = record {
       let whole : w ≡ pending_at Done [] w.state = ap (λ (s : Sequence). record w { sequence = s }) rests.typing.no_sequence ∙ ap (λ (xs : List Around). pending_at Done xs w.state) around in
       subst (λ (x : Pending). RunsOut p x 0 Fell) (sym whole) (done_out p w.state);
 }
-  where
-    no_entries : (es : List ℕ) → slice_get es 0 ≡ None → es ≡ []
-    no_entries [] e = refl
-    no_entries (j ∷ es) e = let bad : ⊥ = cc in absurd bad

@@ -101,29 +101,29 @@ past_fits p v end at = else_end_fits p (before v) end at.state at.here
 pub past_label : (p : Program) (v : View) (end : ℕ) → IsAt p v (op.Else end) → 1 ≤ length v.labels
 past_label p v end at = else_label p (before v) end at.state at.here
 
-fewer_labels : (ls : List Label) → 1 ≤ length ls → length (drop 1 ls) < length ls
-fewer_labels [] e = let bad : ⊥ = omega (arith, e) in absurd bad
-fewer_labels (l ∷ ls) e = omega arith
+label_less : (ls : List Label) → 1 ≤ length ls → length ls ≡ length (drop 1 ls) + 1
+label_less [] e = let bad : ⊥ = omega (arith, e) in absurd bad
+label_less (l ∷ ls) e = omega arith
 
 pub record Frees (p : Program) (u v' : View) : Type 0 where
   pub moves : Moves p u v' 0
-  pub fewer : free_moves v' < free_moves u
+  pub one_less : free_moves u ≡ free_moves v' + 1
 
 -- the same, told by an equation
-pub freed : (p : Program) (u v v' : View) → v' ≡ v → Frees p u v → Moves p u v' 0 × (free_moves v' < free_moves u)
-freed p u v v' e f = (subst (λ (x : View). Moves p u x 0) (sym e) f.moves, subst (λ (x : View). free_moves x < free_moves u) (sym e) f.fewer)
+pub freed : (p : Program) (u v v' : View) → v' ≡ v → Frees p u v → Moves p u v' 0 × (free_moves u ≡ free_moves v' + 1)
+freed p u v v' e f = (subst (λ (x : View). Moves p u x 0) (sym e) f.moves, subst (λ (x : View). free_moves u ≡ free_moves x + 1) (sym e) f.one_less)
 
 pub past_arm : (p : Program) (v : View) (end : ℕ) → IsAt p v (op.Else end) → Frees p (before v) (record v { place = end + 1; labels = drop 1 v.labels })
 past_arm p v end at = record {
   moves = else_moves p (before v) end at.here;
-  fewer = let fewer = fewer_labels v.labels (past_label p v end at) in omega (arith, fewer);
+  one_less = let less = label_less v.labels (past_label p v end at) in omega (arith, less);
 }
 
 pub close_arm
     : (p : Program) (v : View) (f : Frame) → IsAt p v op.End → slice_get v.frames 0 ≡ Some f → f.opened < length v.labels → Frees p (before v) (record v { labels = drop 1 v.labels })
 close_arm p v f at live more = record {
   moves = subst (λ (k : ℕ). Moves p (before v) (record v { place = k; labels = drop 1 v.labels }) 0) (back_at p v op.End at) (end_moves p (before v) f at.here live more);
-  fewer = let fewer = fewer_labels v.labels (omega (arith, more)) in omega (arith, fewer);
+  one_less = let less = label_less v.labels (omega (arith, more)) in omega (arith, less);
 }
 
 -- Calls that end.
@@ -157,7 +157,7 @@ body_arm p v v' f at live none e =
     let there = e ∙ leave_from_there p v f (v.place - 1) live in
     record {
       moves = moved_by p (before v) (leave_view p (before v)) v' 0 there (body_moves p (before v) f at.here live none);
-      fewer = subst (λ (x : View). free_moves x < free_moves (before v)) (sym there) (leave_frees p (before v) f live);
+      one_less = subst (λ (x : View). free_moves (before v) ≡ free_moves x + 1) (sym there) (leave_frees p (before v) f live none);
     }
 
 -- Branches.

@@ -1,5 +1,5 @@
 -- How a vessel enters a body from outside, or ends.
-use Rattle.std.proofs.Common.{◌≡◌, ℕ, ◌+◌, ◌<◌, ◌≤◌, Bool, true, false, length, Option, Some, None, slice_get, refl, sym, ap, subst, ◌∙◌, length-append, option_map, arith}
+use Rattle.std.proofs.Common.{◌≡◌, ℕ, ◌+◌, ◌<◌, ◌≤◌, Bool, true, false, [], length, Option, Some, None, slice_get, refl, sym, ap, subst, ◌∙◌, length-append, option_map, arith}
 use Rattle.std.proofs.lemmas.List.{length-replicate}
 use Rattle.wasm_ops.specs.declared.traps.Trap.TheVariants.{StackExhausted}
 use Rattle.wasm_meaning.specs.Bytes.{zeros}
@@ -10,12 +10,13 @@ use Rattle.wasm_store.specs.View.{View}
 use Rattle.wasm_states.specs.Calling.{has_room_for, entry_view}
 use Rattle.wasm_states.specs.Holding.{IsState, free_moves}
 use Rattle.wasm_states.specs.Steps.{Moves, Stops}
-use Rattle.wasm_states.proofs.EntryMoves.{EntersWith, entry_moves, entry_stops, entry_known, entry_frees, all_ended}
+use Rattle.wasm_states.proofs.EntryMoves.{EntersWith, no_frames, no_entries, entry_moves, entry_stops, entry_known, entry_frees, all_ended}
 use Rattle.wasm_states.proofs.StateLaws.{kept_state, holds_fits}
 use Rattle.wasm_instance.specs.declared.callees.Shape.{Shape}
 use Rattle.wasm_instance.specs.Callees.{shape_of}
 use Rattle.wasm_step.specs.Arms.{before}
 use Rattle.wasm_step.specs.Does.{Ends}
+use Rattle.wasm_step.specs.Means.{NothingLeft}
 use Rattle.wasm_step.specs.declared.answers.Step.{Step}
 use Rattle.wasm_step.proofs.ControlArms.{Frees}
 
@@ -32,19 +33,19 @@ shaped (Some f) shape e = let same : shape_of f ≡ shape = cc in record { f = f
 pub next_known : (p : Program) (v : View) (body : ℕ) → IsState p v → length v.frames ≡ 0 → slice_get v.entries 0 ≡ Some body → body < length (defined p.linked)
 next_known p v body state rests next = entry_known p v body state rests next
 
-pub end_arm : (p : Program) (v : View) → length v.frames ≡ 0 → slice_get v.entries 0 ≡ None → Stops p (before v) 0 Fell
-end_arm p v rests next = all_ended p (before v) rests next
+pub end_arm : (p : Program) (v : View) → length v.frames ≡ 0 → slice_get v.entries 0 ≡ None → NothingLeft (before v) × Stops p (before v) 0 Fell
+end_arm p v rests next = (record { no_frames = no_frames v.frames rests; no_entries = no_entries v.entries next }, all_ended p (before v) rests next)
 
 enters : (p : Program) (v : View) (body : ℕ) (f : Function) → length v.frames ≡ 0 → slice_get v.entries 0 ≡ Some body → slice_get (defined p.linked) body ≡ Some f → EntersWith p v body f
 enters p v body f rests next known = record { none_live = rests; next = next; known = known }
 
 pub exhausts_arm
     : (p : Program) (v : View) (body : ℕ) (shape : Shape) → length v.frames ≡ 0 → slice_get v.entries 0 ≡ Some body → option_map shape_of (slice_get (defined p.linked) body) ≡ Some shape
-    → has_room_for shape.cells v ≡ false → Stops p v 0 (Trapped StackExhausted)
+    → has_room_for shape.cells v ≡ false → (v.frames ≡ []) × Stops p v 0 (Trapped StackExhausted)
 exhausts_arm p v body shape rests next is none =
     let s = shaped (slice_get (defined p.linked) body) shape is in
     let cells = ap (λ (x : Shape). x.cells) s.same in
-    entry_stops p v body s.f (enters p v body s.f rests next s.is) (ap (λ (n : ℕ). has_room_for n v) cells ∙ none)
+    (no_frames v.frames rests, entry_stops p v body s.f (enters p v body s.f rests next s.is) (ap (λ (n : ℕ). has_room_for n v) cells ∙ none))
 
 pub enter_arm
     : (p : Program) (v v' : View) (body : ℕ) (shape : Shape) → length v.frames ≡ 0 → slice_get v.entries 0 ≡ Some body → option_map shape_of (slice_get (defined p.linked) body) ≡ Some shape
@@ -57,7 +58,7 @@ enter_arm p v v' body shape rests next is room e =
     let there : v' ≡ entry_view body (length s.f.locals) (cells_of s.f) v = e ∙ ap (λ (x : Shape). entry_view body x.locals x.cells v) (sym s.same) in
     record {
       moves = subst (λ (x : View). Moves p v x 0) (sym there) moves;
-      fewer = subst (λ (x : View). free_moves x < free_moves v) (sym e) (entry_frees v body shape.locals shape.cells next);
+      one_less = subst (λ (x : View). free_moves v ≡ free_moves x + 1) (sym e) (entry_frees v body shape.locals shape.cells next);
     }
 
 pub length-zeros : (n : ℕ) → length (zeros n) ≡ n

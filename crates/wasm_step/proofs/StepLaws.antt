@@ -1,15 +1,20 @@
 -- From what each operator does to what a whole step means.
-use Rattle.std.proofs.Common.{◌≡◌, ℕ, ◌+◌, ◌-◌, ◌<◌, ◌≤◌, Bool, true, Option, Some, None, is_some, refl, sym, ap, subst, ◌∙◌, arith}
+use Rattle.std.proofs.Common.{◌≡◌, ◌↔◌, ℕ, zero, suc, ◌+◌, ◌-◌, ◌*◌, ◌<◌, ◌≤◌, Bool, true, List, [], ◌∷◌, length, slice_get, Option, Some, None, is_some, refl, sym, ap, subst, ◌∙◌, arith}
 use Rattle.wasm_ops.specs.declared.host_calls.HostName.{HostName}
 use Rattle.wasm_ops.specs.declared.operators.Op.{Op}
 use Rattle.wasm_ops.specs.declared.operators.Op.TheVariants as op
+use Rattle.wasm_ops.specs.declared.traps.Trap.{Trap}
 use Rattle.wasm_ops.specs.Sequence.{Sequence, Done, Plain, InBlock, InLoop, InIf, InIfElse}
-use Rattle.wasm_meaning.specs.Pending.{Pending}
-use Rattle.wasm_meaning.specs.Programs.{Program}
+use Rattle.wasm_meaning.specs.Pending.{Pending, onward}
+use Rattle.wasm_meaning.specs.Programs.{Program, instance_of}
+use Rattle.wasm_meaning.specs.State.{Fell, Trapped, Run}
 use Rattle.wasm_store.specs.View.{View}
+use Rattle.wasm_store.specs.declared.calls.Frame.{Frame}
+use Rattle.wasm_store.specs.declared.labels.Label.{Label}
 use Rattle.wasm_states.specs.Codes.{operator_at, op_at}
-use Rattle.wasm_states.specs.Holding.{Holds, IsState}
-use Rattle.wasm_states.specs.Steps.{Lacks}
+use Rattle.wasm_states.specs.Holding.{Holds, IsState, free_moves}
+use Rattle.wasm_states.specs.Steps.{IsOver, RunsOut, Reaches, Pays, Lacks}
+use Rattle.wasm_states.proofs.EntryMoves.{all_ended, resting_of}
 use Rattle.wasm_states.proofs.Inversions.{IsCloser, Place, done_closes}
 use Rattle.wasm_states.proofs.Places.{op_there, place_fits}
 use Rattle.wasm_states.proofs.SpendingLaws.{HasOperator, operator_pays, is_short}
@@ -18,7 +23,7 @@ use Rattle.wasm_step.specs.Arms.{before, IsAt, Acts}
 use Rattle.wasm_step.specs.Arguments.{Asks}
 use Rattle.wasm_step.specs.Asking.{asked_by, Asking}
 use Rattle.wasm_step.specs.Does.{Ends, Calls, IsPriced, Shorts, Does}
-use Rattle.wasm_step.specs.Means.{Keeps, Means, IsSpent}
+use Rattle.wasm_step.specs.Means.{Keeps, Means, NothingLeft, IsEnded, IsOneMove, IsSpent}
 use Rattle.wasm_step.specs.declared.answers.Step.{Step}
 use Rattle.wasm_step.specs.declared.answers.Step.TheVariants as step
 
@@ -26,7 +31,7 @@ use Rattle.wasm_step.specs.declared.answers.Step.TheVariants as step
 
 pub acts_do : (p : Program) (v v' : View) (answer : Step) → Acts p v v' answer → Does p 1 v v' answer
 acts_do p v v' (step.Went price) acts = (omega (arith, acts.0), omega (arith, acts.0), acts.1)
-acts_do p v v' (step.Trapped trap price) acts = (omega (arith, acts.0), acts.1)
+acts_do p v v' (step.Trapped trap price) acts = (omega (arith, acts.0), (λ none. let bad : ⊥ = omega (arith, acts.0, none) in absurd bad), acts.1)
 acts_do p v v' step.Free acts = absurd acts
 acts_do p v v' (step.Host call) acts = absurd acts
 acts_do p v v' step.Ended acts = absurd acts
@@ -34,7 +39,7 @@ acts_do p v v' step.Short acts = absurd acts
 
 pub ends_do : (p : Program) (most : ℕ) (v v' : View) (answer : Step) → Ends p v v' answer → Does p most v v' answer
 ends_do p most v v' (step.Went price) ends = absurd ends
-ends_do p most v v' (step.Trapped trap price) ends = (omega (arith, ends.0), ends.1)
+ends_do p most v v' (step.Trapped trap price) ends = (omega (arith, ends.0), (λ none. ends.1), ends.2)
 ends_do p most v v' step.Free ends = ends
 ends_do p most v v' (step.Host call) ends = absurd ends
 ends_do p most v v' step.Ended ends = ends
@@ -42,7 +47,7 @@ ends_do p most v v' step.Short ends = absurd ends
 
 pub calls_do : (p : Program) (v v' : View) (answer : Step) → Calls p v v' answer → Does p 1 v v' answer
 calls_do p v v' (step.Went price) calls = (omega (arith, calls.0), omega (arith, calls.0), calls.1)
-calls_do p v v' (step.Trapped trap price) calls = (omega (arith, calls.0), calls.1)
+calls_do p v v' (step.Trapped trap price) calls = (omega (arith, calls.0), (λ none. let bad : ⊥ = omega (arith, calls.0, none) in absurd bad), calls.1)
 calls_do p v v' step.Free calls = absurd calls
 calls_do p v v' (step.Host call) calls = calls
 calls_do p v v' step.Ended calls = absurd calls
@@ -56,7 +61,8 @@ keeps_of p v v' most left (step.Went price) state le does =
     record { least = does.0; within = omega (arith, le, does.1); state = after; few = moves_few p v' after }
 keeps_of p v v' most left step.Free state le does =
     let after = kept_state p v v' 0 state does.0 in
-    record { state = after; fewer = does.1; few = moves_few p v' after }
+    let less = does.1 in
+    record { state = after; fewer = omega (arith, less); few = moves_few p v' after }
 keeps_of p v v' most left (step.Host call) state le does = (does.0, does.1.can)
 keeps_of p v v' most left (step.Trapped trap price) state le does = omega (arith, le, does.0)
 keeps_of p v v' most left step.Ended state le does = does.0
@@ -67,8 +73,8 @@ pub means_of
 means_of p v v' most left (step.Went price) nothing does w h = does.2.moves w h
 means_of p v v' most left step.Free nothing does w h = does.0.moves w h
 means_of p v v' most left (step.Host call) nothing does w h = does.1.calls w h
-means_of p v v' most left (step.Trapped trap price) nothing does w h = does.1.stops w h
-means_of p v v' most left step.Ended nothing does w h = does.1.stops w h
+means_of p v v' most left (step.Trapped trap price) nothing does w h = does.2.stops w h
+means_of p v v' most left step.Ended nothing does w h = does.2.stops w h
 means_of p v v' most left step.Short nothing does w h =
     let both = does.2.each w h in
     (both.0, subst (λ (l : ℕ). Lacks p w l) (sym (nothing does.0)) both.1)
@@ -88,6 +94,75 @@ spent_of p v v' most left (step.Host call) nothing does = tt
 spent_of p v v' most left (step.Trapped trap price) nothing does = tt
 spent_of p v v' most left step.Ended nothing does = tt
 spent_of p v v' most left step.Short nothing does = nothing does.0
+
+pub one_move_of : (p : Program) (v v' : View) (most : ℕ) (answer : Step) → Does p most v v' answer → IsOneMove v v' answer
+one_move_of p v v' most (step.Went price) does = tt
+one_move_of p v v' most step.Free does = does.1
+one_move_of p v v' most (step.Host call) does = tt
+one_move_of p v v' most (step.Trapped trap price) does = does.1
+one_move_of p v v' most step.Ended does = tt
+one_move_of p v v' most step.Short does = tt
+
+-- The end.
+
+-- where nothing is left to run, running on is over at once
+over_at
+    : (p : Program) (v : View) (w : Pending) → Holds p v w → NothingLeft v → (bound left : ℕ) → left ≤ bound
+    → IsOver (onward (instance_of p) bound w left) Fell [] left w.state.store.streams
+over_at p v w h nothing bound left fits =
+    let none_live : length v.frames ≡ 0 = ap (λ (fs : List Frame). length fs) nothing.no_frames in
+    let none_next : slice_get v.entries 0 ≡ None = ap (λ (es : List ℕ). slice_get es 0) nothing.no_entries in
+    let same : 0 + left ≡ left = omega arith in
+    subst (λ (n : ℕ). IsOver (onward (instance_of p) bound w n) Fell [] left w.state.store.streams) same
+    (((all_ended p v none_live none_next).stops w h).over bound left (omega (arith, fits)))
+
+-- so no operator is paid
+never_pays : (p : Program) (v : View) (w : Pending) → Holds p v w → NothingLeft v → Pays p w → ⊥
+never_pays p v w h nothing pays = pays.pays 0 0 (over_at p v w h nothing 0 0 (omega arith)).prices_are
+
+never_goes : (p : Program) (v v' : View) (w : Pending) (price : ℕ) → Holds p v w → NothingLeft v → 1 ≤ price → Reaches p w price v' → ⊥
+never_goes p v v' w zero h nothing least reached = omega (arith, least)
+never_goes p v v' w (suc n) h nothing least reached =
+    let over = over_at p v w h nothing (suc n) (suc n + 0) (omega arith) in
+    let paid_is = ap (λ (r : Run). r.prices) (reached.runs.same (suc n) 0 (omega arith)) in
+    no_price (suc n) (onward (instance_of p) (suc n) reached.pending 0).prices (onward (instance_of p) (suc n) w (suc n + 0)).prices paid_is over.prices_are
+  where
+    no_price : (price : ℕ) (more all : List ℕ) → all ≡ price ∷ more → all ≡ [] → ⊥
+    no_price price more all some none = cc
+
+never_traps : (p : Program) (v : View) (w : Pending) (trap : Trap) (price : ℕ) → Holds p v w → NothingLeft v → RunsOut p w price (Trapped trap) → ⊥
+never_traps p v w trap price h nothing out =
+    let fell = (over_at p v w h nothing price (price + 0) (omega arith)).outcome_is in
+    let trapped = (out.over price 0 (omega arith)).outcome_is in
+    let bad : ⊥ = cc in bad
+
+none_free : (p : Program) (v v' : View) (w : Pending) → Holds p v w → NothingLeft v → free_moves v ≡ free_moves v' + 1 → ⊥
+none_free p v v' w h nothing less =
+    let frames : length v.frames ≡ 0 = ap (λ (fs : List Frame). length fs) nothing.no_frames in
+    let labels = ap (λ (ls : List Label). length ls) (resting_of p v w h frames).no_labels in
+    let entries = ap (λ (es : List ℕ). length es) nothing.no_entries in
+    omega (arith, less, frames, labels, entries)
+
+ends_there : (p : Program) (v v' : View) (most : ℕ) (answer : Step) → IsState p v → NothingLeft v → Does p most v v' answer → IsEnded answer
+ends_there p v v' most (step.Went price) state nothing does = never_goes p v v' state.pending price state.holds nothing does.0 (does.2.moves state.pending state.holds)
+ends_there p v v' most step.Free state nothing does = none_free p v v' state.pending state.holds nothing does.1
+ends_there p v v' most (step.Host call) state nothing does = never_pays p v state.pending state.holds nothing (does.1.calls state.pending state.holds).pays
+ends_there p v v' most (step.Trapped trap price) state nothing does = never_traps p v state.pending trap price state.holds nothing (does.2.stops state.pending state.holds)
+ends_there p v v' most step.Ended state nothing does = tt
+ends_there p v v' most step.Short state nothing does = never_pays p v state.pending state.holds nothing (does.2.each state.pending state.holds).0
+
+only_there : (p : Program) (v v' : View) (most : ℕ) (answer : Step) → Does p most v v' answer → IsEnded answer → NothingLeft v
+only_there p v v' most (step.Went price) does ended = absurd ended
+only_there p v v' most step.Free does ended = absurd ended
+only_there p v v' most (step.Host call) does ended = absurd ended
+only_there p v v' most (step.Trapped trap price) does ended = absurd ended
+only_there p v v' most step.Ended does ended = does.1
+only_there p v v' most step.Short does ended = absurd ended
+
+pub ended_of : (p : Program) (v v' : View) (most : ℕ) (answer : Step) → IsState p v → Does p most v v' answer → IsEnded answer ↔ NothingLeft v
+ended_of p v v' most answer state does = (only_there p v v' most answer does, λ nothing. ends_there p v v' most answer state nothing does)
+
+-- Other vessels.
 
 -- the same, told of an equal vessel
 pub does_as : (p : Program) (most : ℕ) (u v v' : View) (answer : Step) → u ≡ v → Does p most u v' answer → Does p most v v' answer

@@ -1,5 +1,5 @@
 -- What a step answers, in words of what is pending: what its caller can rely on by itself, and what it means for each pending that the vessel has before it.
-use Rattle.std.specs.Prelude.{◌≡◌, ℕ, ◌≤◌, ◌<◌, ◌^◌}
+use Rattle.std.specs.Prelude.{◌≡◌, ℕ, ◌+◌, ◌≤◌, ◌<◌, ◌^◌, []}
 use Rattle.wasm_meaning.specs.Pending.{Pending}
 use Rattle.wasm_meaning.specs.Programs.{Program}
 use Rattle.wasm_meaning.specs.State.{Fell, Trapped}
@@ -38,6 +38,21 @@ Means p w v left v' (step.Host call) = Calls p w v call
 Means p w v left v' (step.Trapped trap price) = RunsOut p w price (Trapped trap)
 Means p w v left v' step.Ended = RunsOut p w 0 Fell
 Means p w v left v' step.Short = Pays p w × Lacks p w left
+
+-- nothing is left to run: no call is live, and no body is still to be entered
+pub record NothingLeft (v : View) : Type 0 where
+  pub no_frames : v.frames ≡ []
+  pub no_entries : v.entries ≡ []
+
+abbrev pub IsEnded : Step → Type 0
+IsEnded step.Ended = Unit {0}
+IsEnded answer = ⊥
+
+-- what costs nothing is one move: there is one less of them; or, where no call is live, the next body is entered, and traps
+abbrev pub IsOneMove : (v v' : View) → Step → Type 0
+IsOneMove v v' step.Free = free_moves v ≡ free_moves v' + 1
+IsOneMove v v' (step.Trapped trap price) = price ≡ 0 → v.frames ≡ []
+IsOneMove v v' answer = Unit {0}
 
 -- an operator is short only where nothing is left
 abbrev pub IsSpent : (left : ℕ) → Step → Type 0

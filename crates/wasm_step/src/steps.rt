@@ -1,12 +1,12 @@
 //! One step of a running function.
-ghost use Rattle.std.specs.Prelude.{◌≡◌, true, is_some, Some};
+ghost use Rattle.std.specs.Prelude.{◌≡◌, ◌↔◌, true, is_some, Some};
 ghost use Rattle.wasm_meaning.specs.Pending.{Pending};
 ghost use Rattle.wasm_states.specs.Codes.{operator_at};
 ghost use Rattle.wasm_states.specs.Holding.{Holds, IsState};
 ghost use Rattle.wasm_step.specs.Arms.{IsAt, before};
 ghost use Rattle.wasm_step.specs.Asking.{Asking};
 ghost use Rattle.wasm_step.specs.Does.{Does};
-ghost use Rattle.wasm_step.specs.Means.{IsSpent, Keeps, Means};
+ghost use Rattle.wasm_step.specs.Means.{IsEnded, IsOneMove, IsSpent, Keeps, Means, NothingLeft};
 
 use crate::answers::Step;
 use crate::calls::{call, call_indirect};
@@ -30,6 +30,8 @@ pub fn step(program: &Program, vessel: &mut Vessel, left: u64) -> Step
     requires state { IsState program.now vessel.old }
     ensures keeps { Keeps program.now vessel.old left vessel.new result }
     ensures means { (w : Pending) → Holds program.now vessel.old w → Means program.now w vessel.old left vessel.new result }
+    ensures ended { IsEnded result ↔ NothingLeft vessel.old }
+    ensures free { IsOneMove vessel.old vessel.new result }
     ensures asks { Asking program.now vessel.old result }
     ensures short { IsSpent left result }
     ensures pages { vessel.new.pages ≡ vessel.old.pages }

@@ -6,7 +6,7 @@ use Rattle.wasm_step.proofs.EntryArms.{end_arm, ends_as}
 use Rattle.wasm_step.proofs.entries.next_entry.Goals as goal
 
 pub returns-in-None-clause-ends : goal.returns-in-None-clause-ends
-returns-in-None-clause-ends c = ((c.go_to.ensures ∙ ap (λ (k : ℕ). record c.args.vessel.now { place = k - 1 }) c.place-place.ensures), end_arm c.args.program.now c.args.vessel.now c.requires.rests (ap (λ (x : View). slice_get x.entries 0) (sym (c.go_to.ensures ∙ ap (λ (k : ℕ). record c.args.vessel.now { place = k - 1 }) c.place-place.ensures)) ∙ sym c.next_entry.ensures ∙ c.in-None.is))
+returns-in-None-clause-ends c = let ends = end_arm c.args.program.now c.args.vessel.now c.requires.rests (ap (λ (x : View). slice_get x.entries 0) (sym (c.go_to.ensures ∙ ap (λ (k : ℕ). record c.args.vessel.now { place = k - 1 }) c.place-place.ensures)) ∙ sym c.next_entry.ensures ∙ c.in-None.is) in (c.go_to.ensures ∙ ap (λ (k : ℕ). record c.args.vessel.now { place = k - 1 }) c.place-place.ensures, ends.0, ends.1)
 
 pub enter_from_outside-requires : goal.enter_from_outside-requires
 enter_from_outside-requires c = record { state = subst (λ (x : View). IsState c.args.program.now x) (sym (c.go_to.ensures ∙ ap (λ (k : ℕ). record c.args.vessel.now { place = k - 1 }) c.place-place.ensures)) c.requires.at.state; rests = ap (λ (x : View). length x.frames) (c.go_to.ensures ∙ ap (λ (k : ℕ). record c.args.vessel.now { place = k - 1 }) c.place-place.ensures) ∙ c.requires.rests; next = sym c.next_entry.ensures ∙ c.in-Some.is }

@@ -1,6 +1,6 @@
 use Rattle.std.proofs.Common.{arith}
 use Rattle.wasm_step.specs.Arms.{before}
-use Rattle.wasm_step.proofs.StepLaws.{operator_found, op_found, next_fits, passed_at, before_is, does_as, keeps_of, means_of, asking_of, spent_of}
+use Rattle.wasm_step.proofs.StepLaws.{operator_found, op_found, next_fits, passed_at, before_is, does_as, keeps_of, means_of, asking_of, ended_of, one_move_of, spent_of}
 use Rattle.wasm_step.proofs.steps.step.Goals as goal
 
 pub returns-then-left-eq0-clause-asks : goal.returns-then-left-eq0-clause-asks
@@ -8,6 +8,18 @@ returns-then-left-eq0-clause-asks c = asking_of c.args.program.now c.args.vessel
 
 pub returns-clause-asks : goal.returns-clause-asks
 returns-clause-asks c = asking_of c.args.program.now c.args.vessel.now c.act.new.vessel 1 c.act.result (does_as c.args.program.now 1 (before c.go_to.new.self) c.args.vessel.now c.act.new.vessel c.act.result (before_is c.args.vessel.now c.go_to.new.self c.place-place.result c.place-place.ensures c.go_to.ensures) c.act.ensures.does)
+
+pub returns-then-left-eq0-clause-ended : goal.returns-then-left-eq0-clause-ended
+returns-then-left-eq0-clause-ended c = ended_of c.args.program.now c.args.vessel.now c.step_for_nothing.new.vessel 0 c.step_for_nothing.result c.requires.state c.step_for_nothing.ensures.does
+
+pub returns-clause-ended : goal.returns-clause-ended
+returns-clause-ended c = ended_of c.args.program.now c.args.vessel.now c.act.new.vessel 1 c.act.result c.requires.state (does_as c.args.program.now 1 (before c.go_to.new.self) c.args.vessel.now c.act.new.vessel c.act.result (before_is c.args.vessel.now c.go_to.new.self c.place-place.result c.place-place.ensures c.go_to.ensures) c.act.ensures.does)
+
+pub returns-then-left-eq0-clause-free : goal.returns-then-left-eq0-clause-free
+returns-then-left-eq0-clause-free c = one_move_of c.args.program.now c.args.vessel.now c.step_for_nothing.new.vessel 0 c.step_for_nothing.result c.step_for_nothing.ensures.does
+
+pub returns-clause-free : goal.returns-clause-free
+returns-clause-free c = one_move_of c.args.program.now c.args.vessel.now c.act.new.vessel 1 c.act.result (does_as c.args.program.now 1 (before c.go_to.new.self) c.args.vessel.now c.act.new.vessel c.act.result (before_is c.args.vessel.now c.go_to.new.self c.place-place.result c.place-place.ensures c.go_to.ensures) c.act.ensures.does)
 
 pub returns-then-left-eq0-clause-keeps : goal.returns-then-left-eq0-clause-keeps
 returns-then-left-eq0-clause-keeps c = keeps_of c.args.program.now c.args.vessel.now c.step_for_nothing.new.vessel 0 c.args.left c.step_for_nothing.result c.requires.state (omega arith) c.step_for_nothing.ensures.does

@@ -79,17 +79,6 @@ first_fits program is = by program.linked.memories refl (passed program.linked p
         limited limits.least limits.most program.pages few
         (not_above program.linked is.valid limits (ap (λ (all : List Limits). slice_get all 0) e))
 
-pub most_within : (program : Program) → most program ≤ program.pages
-most_within program = by program.linked.memories
-  where
-    to : (o : Option ℕ) → limited_to program.pages o ≤ program.pages
-    to None = omega arith
-    to (Some greatest_size) = omega arith
-
-    by : (memories : List Limits) → greatest program.pages memories ≤ program.pages
-    by [] = omega arith
-    by (limits ∷ others) = to limits.most
-
 -- so many pages of a memory that had none
 first_bytes : (by limit : ℕ) → by ≤ limit → unwrap_or (grown [] by limit) [] ≡ zeros (by * page)
 first_bytes by limit few =

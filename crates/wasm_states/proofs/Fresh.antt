@@ -16,7 +16,7 @@ use Rattle.wasm_meaning.specs.Control.{Callee, Host, imported_or, callee_at}
 use Rattle.wasm_meaning.specs.HostCalls.{host_type}
 use Rattle.wasm_meaning.specs.Linking.{link_refusal, first_refused, import_refusal, told_at, is_entry, entry_refusal, export_named, entry_name}
 use Rattle.wasm_meaning.specs.Pending.{entering}
-use Rattle.wasm_meaning.specs.Programs.{Program, IsProgram, first, most, start_body, entry_body, body_number, hosts, instance_of}
+use Rattle.wasm_meaning.specs.Programs.{Program, IsProgram, first, start_body, entry_body, body_number, hosts, instance_of}
 use Rattle.wasm_meaning.specs.Validity.{is_bare}
 use Rattle.wasm_meaning.specs.ValiditySpaces.{function_type}
 use Rattle.wasm_meaning.proofs.ModuleFacts.{get_at, get_behind, and_both, is_less, none_of_all, not_told, holds_unless, nothing_taken}
@@ -123,7 +123,7 @@ few_of None (Some n) = omega arith
 few_of (Some n) None = omega arith
 few_of (Some n) (Some k) = omega arith
 
-fresh_holds : (p : Program) (pages : ℕ) → IsProgram p → most p ≤ pages → (body : List ℕ) → Holds p (fresh_view p pages) (first p body)
+fresh_holds : (p : Program) (pages : ℕ) → IsProgram p → p.pages ≤ pages → (body : List ℕ) → Holds p (fresh_view p pages) (first p body)
 fresh_holds p pages is room body = record {
   program = is;
   stands = inr (record {
@@ -140,5 +140,5 @@ fresh_holds p pages is room body = record {
   few_entries = few_of (start_body p.linked) (entry_body p.linked);
 }
 
-pub begins : (p : Program) (pages : ℕ) (v : View) → IsProgram p → most p ≤ pages → v ≡ fresh_view p pages → Begins p v
+pub begins : (p : Program) (pages : ℕ) (v : View) → IsProgram p → p.pages ≤ pages → v ≡ fresh_view p pages → Begins p v
 begins p pages v is room e = subst (λ (x : View). Begins p x) (sym e) (record { holds = fresh_holds p pages is room })

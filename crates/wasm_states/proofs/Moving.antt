@@ -5,7 +5,7 @@ use Rattle.wasm_ops.specs.Sequence.{Sequence, Plain, size}
 use Rattle.wasm_meaning.specs.Effects.{Goes}
 use Rattle.wasm_meaning.specs.Operators.{effect}
 use Rattle.wasm_meaning.specs.Pending.{Around, Pending}
-use Rattle.wasm_meaning.specs.Programs.{Program, most, instance_of}
+use Rattle.wasm_meaning.specs.Programs.{Program, instance_of}
 use Rattle.wasm_meaning.specs.State.{Store, State}
 use Rattle.wasm_meaning.specs.Values.{numbers}
 use Rattle.wasm_pending.specs.Steps.{pending_at}
@@ -61,7 +61,7 @@ same_store p v v' w w' h r store memory globals table pages entries = record {
     memory = memory ∙ h.store.memory ∙ ap (λ (s : Store). s.memory) (sym store);
     globals = globals ∙ h.store.globals ∙ ap (λ (s : Store). numbers s.globals) (sym store);
     table = table ∙ h.store.table ∙ ap (λ (s : Store). s.table) (sym store);
-    room = subst (λ (n : ℕ). most p ≤ n) (sym pages) h.store.room;
+    room = subst (λ (n : ℕ). p.pages ≤ n) (sym pages) h.store.room;
   };
   few_entries = subst (λ (es : List ℕ). length es ≤ 2) (sym entries) h.few_entries;
 }

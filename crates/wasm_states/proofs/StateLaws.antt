@@ -4,12 +4,13 @@ use Rattle.wasm_ops.specs.declared.modules.Body.{Body}
 use Rattle.wasm_ops.specs.declared.modules.Module.{Module}
 use Rattle.wasm_ops.specs.declared.operators.Op.{Op}
 use Rattle.wasm_ops.specs.declared.operators.Op.TheVariants.{End}
+use Rattle.wasm_ops.specs.declared.types.Limits.{Limits}
 use Rattle.wasm_ops.specs.declared.types.ValType.{ValType}
 use Rattle.wasm_ops.specs.Sequence.{Sequence, Plain, IsPlain, size}
 use Rattle.wasm_meaning.specs.Execution.{Caller, cells_of}
 use Rattle.wasm_meaning.specs.Fitting.{AreOf}
 use Rattle.wasm_meaning.specs.Pending.{Around, AroundCall, Pending}
-use Rattle.wasm_meaning.specs.Programs.{Program, defined}
+use Rattle.wasm_meaning.specs.Programs.{Program, limited_to, greatest, most, defined}
 use Rattle.wasm_meaning.specs.State.{Function, State, Outcome}
 use Rattle.wasm_meaning.specs.Values.{Value, numbers}
 use Rattle.wasm_pending.specs.Frames.{in_frame, open_in}
@@ -231,6 +232,18 @@ moves_few p v state = by state.holds.stands
         let frames = ap (λ (fs : List Frame). length fs) rests.no_frames in
         let entries = state.holds.few_entries in
         omega (arith, fits, frames, entries)
+
+-- the program's memory has no more pages than the program was given
+pub most_within : (p : Program) → most p ≤ p.pages
+most_within p = by p.linked.memories
+  where
+    to : (o : Option ℕ) → limited_to p.pages o ≤ p.pages
+    to None = omega arith
+    to (Some greatest_size) = omega arith
+
+    by : (memories : List Limits) → greatest p.pages memories ≤ p.pages
+    by [] = omega arith
+    by (limits ∷ others) = to limits.most
 
 -- what a move pushes has room
 pub push_fits : (p : Program) (v v' : View) (price n : ℕ) → IsState p v → Moves p v v' price → v'.cells ≡ n ∷ v.cells → length v.cells < 65536

@@ -3,18 +3,18 @@ use Rattle.std.specs.Prelude.{◌≡◌, ℕ, ◌+◌, ◌-◌, ◌*◌, ◌≤�
 use Rattle.wasm_ops.specs.declared.modules.Body.{Body}
 use Rattle.wasm_ops.specs.declared.modules.Module.{Module}
 use Rattle.wasm_meaning.specs.Pending.{Pending}
-use Rattle.wasm_meaning.specs.Programs.{Program, IsProgram, first, most, first_memory, first_global, first_table, entry_body, entries}
+use Rattle.wasm_meaning.specs.Programs.{Program, IsProgram, first, first_memory, first_global, first_table, entry_body, entries}
 use Rattle.wasm_meaning.specs.State.{Store}
 use Rattle.wasm_meaning.specs.Values.{numbers}
 use Rattle.wasm_store.specs.View.{View}
 use Rattle.wasm_states.specs.Running.{StandsFor}
 
--- memory, globals and table are those of the state; its streams lie elsewhere
+-- memory, globals and table are those of the state, and the strip has the program's pages; its streams lie elsewhere
 pub record HoldsStore (p : Program) (v : View) (store : Store) : Type 0 where
   pub memory : v.memory ≡ store.memory
   pub globals : v.globals ≡ numbers store.globals
   pub table : v.table ≡ store.table
-  pub room : most p ≤ v.pages
+  pub room : p.pages ≤ v.pages
 
 -- the vessel has what is pending before it, but for the streams
 pub record Holds (p : Program) (v : View) (w : Pending) : Type 0 where

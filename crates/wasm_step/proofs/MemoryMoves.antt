@@ -19,7 +19,7 @@ use Rattle.wasm_meaning.specs.Values.{Value, Int32, value_of, number_in, numbers
 use Rattle.wasm_pending.specs.Steps.{pending_at}
 use Rattle.wasm_pending.specs.Typed.{AreRanged}
 use Rattle.wasm_store.specs.View.{View}
-use Rattle.wasm_states.proofs.StateLaws.{push_fits}
+use Rattle.wasm_states.proofs.StateLaws.{push_fits, most_within}
 use Rattle.wasm_states.specs.Chains.{cells_under}
 use Rattle.wasm_states.specs.Holding.{Holds}
 use Rattle.wasm_states.specs.Running.{Running}
@@ -286,8 +286,9 @@ module _ (p : Program) (v : View) (at : IsAt p v op.MemoryGrow) where
   pub grow_most : (v1 : View) (limit : ℕ) → v1 ≡ popped v → limit ≡ most p → limit ≤ v1.pages
   grow_most v1 limit off limit_is =
       let room = at.state.holds.store.room in
+      let within = most_within p in
       let same = ap (λ (x : View). x.pages) off in
-      omega (arith, room, same, limit_is)
+      omega (arith, room, within, same, limit_is)
 
   pub grow_room : (v1 v2 : View) (memory : List ℕ) → v1 ≡ popped v → v2 ≡ record v1 { memory = memory } → length v2.cells < 65536
   grow_room v1 v2 memory off on =

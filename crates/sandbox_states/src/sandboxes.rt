@@ -1,6 +1,7 @@
 //! Requests that have begun, and their answers.
 ghost use Rattle.std.specs.Prelude.{◌≡◌, ℕ, ◌+◌, ◌^◌, ◌≤◌};
 ghost use Rattle.std.specs.Arc.{arc_value};
+ghost use Rattle.wasm_store.specs.View.{IsClean};
 ghost use Rattle.sandbox_states.specs.Stands.{StandsFor, StandsInTurns};
 ghost use Rattle.sandbox_states.specs.Views.{answer_of, started, told};
 
@@ -177,10 +178,11 @@ pub fn start(job: Admitted, berth: Berth) -> Sandbox
     }
 }
 
-/// The answer of a request that is over, and a berth of the same vessel, which is rinsed.
+/// The answer of a request that is over, and a berth of the same vessel, which is rinsed: whoever has it next finds nothing of this request.
 pub fn settle(finished: Finished) -> (Answer, Berth)
     ensures answer { result.0 ≡ answer_of finished }
     ensures pages { result.1.pages ≡ finished.pages }
+    ensures clean { IsClean result.1 }
 {
     let Finished {
         place,

@@ -58,11 +58,11 @@ fn one_turn(sandbox: Sandbox, quantum: u64) -> Turn
             left: left - paid,
             turns: turns + 1,
         }),
-        Stretch::Over { end, paid } => Turn::Done(Finished {
+        Stretch::Over { end, paid: last } => Turn::Done(Finished {
             place,
             vessel,
             verdict: concluded(end, streams),
-            units: units + paid,
+            units: units + last,
             turns: turns + 1,
         }),
     }

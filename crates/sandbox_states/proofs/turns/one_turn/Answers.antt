@@ -18,7 +18,7 @@ returns-in-Reached c = record {
 
 pub returns-in-Over : goal.returns-in-Over
 returns-in-Over c = record {
-  turn = turn_over (arc_value c.sandbox.inside.program) c.deref.result.now c.deref.ensures c.sandbox.inside.vessel c.run_quantum.new.vessel c.sandbox.inside.streams c.run_quantum.new.streams c.sandbox.inside.units c.sandbox.inside.left c.sandbox.inside.turns c.in-Over.paid c.args.quantum c.sandbox.invariant
+  turn = turn_over (arc_value c.sandbox.inside.program) c.deref.result.now c.deref.ensures c.sandbox.inside.vessel c.run_quantum.new.vessel c.sandbox.inside.streams c.run_quantum.new.streams c.sandbox.inside.units c.sandbox.inside.left c.sandbox.inside.turns c.in-Over.last c.args.quantum c.sandbox.invariant
       c.args.sandbox c.sandbox.inside.place c.sandbox.inside.deadline c.in-Over.end (told c.concluded.result) c.sandbox.view_is
       c.in-Over.ensures.means c.concluded.ensures c.in-Over.ensures.pages;
 }

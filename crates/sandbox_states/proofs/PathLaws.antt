@@ -12,8 +12,8 @@ use Rattle.wasm_states.specs.Steps.{item, RunsOn, IsOver, RunsOut, Reaches as St
 use Rattle.sandbox_states.proofs.GroupLaws.{sum_cons, sum_join, sum_one, all_paid, turn_below, turn_with, last_group, cut_then, one_cut, reached_cut}
 use Rattle.sandbox_states.specs.Paths.{outcome_of, last_items, Closes, Onwards, Path, ClosesAt, Paying, Reaches, Finishes, GoesOn, EndsFree}
 use Rattle.sandbox_states.specs.Rests.{ArePaid}
-use Rattle.sandbox_states.specs.declared.runs.Close.{Close}
-use Rattle.sandbox_states.specs.declared.runs.Close.TheVariants as close
+use Rattle.sandbox_states.specs.declared.runs.Ending.{Ending}
+use Rattle.sandbox_states.specs.declared.runs.Ending.TheVariants as ending
 
 paid_again : (front more : List ℕ) (r : Run) → paid front (paid more r) ≡ paid (front ++ more) r
 paid_again front more r = ap (λ (ps : List ℕ). record r { prices = ps }) (sym (append_assoc front more r.prices))
@@ -82,7 +82,7 @@ stays_path p w v' streams holds same = record { next = w; holds = holds; streams
 
 -- the run is over: told by what is left behind the operator
 pub over_closes
-    : (p : Program) (w : Pending) (left price : ℕ) (end : Close) (streams : Streams) → price ≤ left
+    : (p : Program) (w : Pending) (left price : ℕ) (end : Ending) (streams : Streams) → price ≤ left
     → ((bound rest : ℕ) → price + rest ≤ bound → IsOver (onward (instance_of p) bound w (price + rest)) (outcome_of end) (item price) rest streams)
     → last_items end price ≡ item price
     → ClosesAt p w left end (last_items end price) streams
@@ -97,7 +97,7 @@ over_closes p w left price end streams within over items = record {
 pub spent_closes
     : (p : Program) (w : Pending) (left : ℕ) (streams : Streams)
     → ((bound : ℕ) → IsOver (onward (instance_of p) bound w left) Spent (0 ∷ []) left streams)
-    → ClosesAt p w left close.Spent (0 ∷ []) streams
+    → ClosesAt p w left ending.Spent (0 ∷ []) streams
 spent_closes p w left streams over = record {
   at = λ bound fits. let o = over bound in record { outcome_is = o.outcome_is; prices_are = o.prices_are; reply_is = ap (λ (s : Streams). s.reply) o.streams_are };
 }
@@ -110,7 +110,7 @@ path_then p w one two v1 v2 s1 s2 a b =
     record { next = b.next; holds = b.holds; streams_are = b.streams_are; onwards = onwards_then p w a.next b.next one two a.onwards b.onwards }
 
 pub closes_then
-    : (p : Program) (w : Pending) (group items : List ℕ) (left rest : ℕ) (v1 : View) (s1 s2 : Streams) (end : Close) → (a : Path p w group v1 s1) → left ≡ sum group + rest
+    : (p : Program) (w : Pending) (group items : List ℕ) (left rest : ℕ) (v1 : View) (s1 s2 : Streams) (end : Ending) → (a : Path p w group v1 s1) → left ≡ sum group + rest
     → ClosesAt p a.next rest end items s2 → ClosesAt p w left end (group ++ items) s2
 closes_then p w group items left rest v1 s1 s2 end a left_is c = record {
   at = λ bound fits.
@@ -159,14 +159,14 @@ item_turn q front zero below = ap (λ (ps : List ℕ). turns ps q) (append-nil f
 item_turn q front (suc n) below = turn_with q front (suc n) below
 
 -- the last operator of a run is one price more, or none
-pub one_item : (q : ℕ) (front : List ℕ) (end : Close) (price : ℕ) → sum front < q → turns (front ++ last_items end price) q ≡ 1
-one_item q front close.Spent price below = turn_with q front 0 below
-one_item q front close.Fell price below = item_turn q front price below
-one_item q front (close.Exited code) price below = item_turn q front price below
-one_item q front (close.Trapped trap) price below = item_turn q front price below
+pub one_item : (q : ℕ) (front : List ℕ) (end : Ending) (price : ℕ) → sum front < q → turns (front ++ last_items end price) q ≡ 1
+one_item q front ending.Spent price below = turn_with q front 0 below
+one_item q front ending.Fell price below = item_turn q front price below
+one_item q front (ending.Exited code) price below = item_turn q front price below
+one_item q front (ending.Trapped trap) price below = item_turn q front price below
 
 pub finishes
-    : (q : ℕ) (p : Program) (w : Pending) (left got price : ℕ) (v1 : View) (s1 s2 : Streams) (end : Close) → (a : Paying q p w v1 s1 got) → got < q → got ≤ left
+    : (q : ℕ) (p : Program) (w : Pending) (left got price : ℕ) (v1 : View) (s1 s2 : Streams) (end : Ending) → (a : Paying q p w v1 s1 got) → got < q → got ≤ left
     → sum (last_items end price) ≡ price → ClosesAt p a.path.next (left - got) end (last_items end price) s2 → Finishes q p w left s2 end (got + price)
 finishes q p w left got price v1 s1 s2 end a below within items c =
     let total = a.total in
@@ -179,7 +179,7 @@ finishes q p w left got price v1 s1 s2 end a below within items c =
 
 -- whatever is left, it ends for nothing behind the quantum
 pub finishes_free
-    : (q : ℕ) (p : Program) (w : Pending) (left got : ℕ) (v1 : View) (s1 : Streams) (end : Close) → (a : Reaches q p w v1 s1 got) → got ≤ left → EndsFree p a.path.next end
+    : (q : ℕ) (p : Program) (w : Pending) (left got : ℕ) (v1 : View) (s1 : Streams) (end : Ending) → (a : Reaches q p w v1 s1 got) → got ≤ left → EndsFree p a.path.next end
     → a.path.next.state.store.streams ≡ s1 → Finishes q p w left s1 end got
 finishes_free q p w left got v1 s1 end a within f same =
     let total = a.total in

@@ -15,7 +15,7 @@ use Rattle.sandbox_states.specs.Rests.{prices_after, ArePaid}
 use Rattle.sandbox_states.specs.Sound.{IsSound}
 use Rattle.sandbox_states.specs.Stands.{StandsFor, StandsInTurns, IsOneTurn, IsLastTurn, IsTurnOf, IsSuspended, AnswersFor, AnswersIn, TurnStandsFor, TurnStandsInTurns}
 use Rattle.sandbox_states.specs.Views.{SandboxView, FinishedView, remaining, request_of, stopped}
-use Rattle.sandbox_states.specs.declared.runs.Close.{Close}
+use Rattle.sandbox_states.specs.declared.runs.Ending.{Ending}
 use Rattle.sandbox_states.specs.declared.turns.Turn.{Turn}
 use Rattle.sandbox_states.specs.declared.turns.Turn.TheVariants as turn
 
@@ -142,7 +142,7 @@ module _ (p : Program) (v : View) (streams : Streams) (had left count : ℕ) (so
 
   -- the last turn
   pub last_turn
-      : (streams' : Streams) (got quantum : ℕ) (end : Close) (given : Verdict) (place deadline pages' : ℕ) → Finishes quantum p sound.pending left streams' end got
+      : (streams' : Streams) (got quantum : ℕ) (end : Ending) (given : Verdict) (place deadline pages' : ℕ) → Finishes quantum p sound.pending left streams' end got
       → concluded (outcome_of end) streams'.reply ≡ Some given → pages' ≡ v.pages
       → IsLastTurn quantum (stopped place deadline p v streams had left count) (record { place = place; pages = pages'; verdict = given; units = had + got; turns = count + 1 })
   last_turn streams' got quantum end given place deadline pages' f told pages =
@@ -181,7 +181,7 @@ module _ (p p' : Program) (same : p' ≡ p) (v v' : View) (streams streams' : St
       (one_turn p v streams had left count sound v' streams' got within body quantum t place deadline least pages)
 
   pub turn_over
-      : (old : SandboxView) (place deadline : ℕ) (end : Close) (given : Verdict) → stopped place deadline p v streams had left count ≡ old
+      : (old : SandboxView) (place deadline : ℕ) (end : Ending) (given : Verdict) → stopped place deadline p v streams had left count ≡ old
       → ((w : Pending) → Holds p' v w → w.state.store.streams ≡ streams → Finishes quantum p' w left streams' end got)
       → concluded (outcome_of end) streams'.reply ≡ Some given → v'.pages ≡ v.pages
       → IsLastTurn quantum old (record { place = place; pages = v'.pages; verdict = given; units = had + got; turns = count + 1 })

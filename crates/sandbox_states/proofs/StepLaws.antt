@@ -25,8 +25,8 @@ use Rattle.sandbox_states.proofs.GroupLaws.{sum_cons, sum_one, sum_join, cut_the
 use Rattle.sandbox_states.proofs.PathLaws.{onwards_then, price_onwards, paid_path, free_path, over_closes, spent_closes, path_then, closes_then, pays_more, one_paying, none_paying, begins_paying, one_item}
 use Rattle.sandbox_states.specs.Paths.{outcome_of, last_items, Closes, Onwards, Path, ClosesAt, Advances, Keeps, Paying, EndsIn, Parts, BreaksOff, GoesOn, EndsFree, Reaches, Finishes, TurnsOn}
 use Rattle.sandbox_states.specs.Rests.{ArePaid}
-use Rattle.sandbox_states.specs.declared.runs.Close.{Close}
-use Rattle.sandbox_states.specs.declared.runs.Close.TheVariants as close
+use Rattle.sandbox_states.specs.declared.runs.Ending.{Ending}
+use Rattle.sandbox_states.specs.declared.runs.Ending.TheVariants as ending
 use Rattle.sandbox_states.specs.declared.runs.Progress.{Progress}
 use Rattle.sandbox_states.specs.declared.runs.Progress.TheVariants as progress
 
@@ -124,14 +124,14 @@ sum_item (suc n) = sum_one (suc n)
 pub exit_closes
     : (p : Program) (w : Pending) (v v' : View) (s s' : Streams) (call : HostCall) (left code price : ℕ) → IsHost p v call → Holds p v w → w.state.store.streams ≡ s
     → HostAnswers call left (effect_of call v s) v v' s s' (answer.Exited code price)
-    → (sum (item price) ≡ price) × ClosesAt p w left (close.Exited code) (item price) s'
+    → (sum (item price) ≡ price) × ClosesAt p w left (ending.Exited code) (item price) s'
 exit_closes p w v v' s s' call left code price host holds same answers =
     let g = carried p w v v' s s' call left (answer.Exited code price) host holds same answers in
-    (sum_item price, over_closes p w left price (close.Exited code) s' g.within g.over refl)
+    (sum_item price, over_closes p w left price (ending.Exited code) s' g.within g.over refl)
 
 pub short_closes
     : (p : Program) (w : Pending) (v v' : View) (s s' : Streams) (call : HostCall) (left : ℕ) → IsHost p v call → Holds p v w → w.state.store.streams ≡ s
-    → HostAnswers call left (effect_of call v s) v v' s s' answer.Short → ClosesAt p w left close.Spent (0 ∷ []) s'
+    → HostAnswers call left (effect_of call v s) v v' s s' answer.Short → ClosesAt p w left ending.Spent (0 ∷ []) s'
 short_closes p w v v' s s' call left host holds same answers =
     let g = carried p w v v' s s' call left answer.Short host holds same answers in
     spent_closes p w left s' g.over
@@ -142,7 +142,7 @@ pub host_asked : (p : Program) (v v' : View) (call : HostCall) → v' ≡ v → 
 host_asked p v v' call same can calls = subst (λ (x : View). IsHost p x call) (sym same) (record { can = can; calls = calls })
 
 pub out_closes
-    : (p : Program) (w : Pending) (left price : ℕ) (end : Close) (s : Streams) → price ≤ left → RunsOut p w price (outcome_of end) → w.state.store.streams ≡ s
+    : (p : Program) (w : Pending) (left price : ℕ) (end : Ending) (s : Streams) → price ≤ left → RunsOut p w price (outcome_of end) → w.state.store.streams ≡ s
     → last_items end price ≡ item price → (sum (last_items end price) ≡ price) × ClosesAt p w left end (last_items end price) s
 out_closes p w left price end s within out same items = (
   ap (λ (ps : List ℕ). sum ps) items ∙ sum_item price,
@@ -150,9 +150,9 @@ out_closes p w left price end s within out same items = (
       (over_closes p w left price end w.state.store.streams within out.over items),
 )
 
-pub lacks_closes : (p : Program) (w : Pending) (left : ℕ) (s : Streams) → Lacks p w left → w.state.store.streams ≡ s → ClosesAt p w left close.Spent (0 ∷ []) s
+pub lacks_closes : (p : Program) (w : Pending) (left : ℕ) (s : Streams) → Lacks p w left → w.state.store.streams ≡ s → ClosesAt p w left ending.Spent (0 ∷ []) s
 lacks_closes p w left s lacks same =
-    subst (λ (x : Streams). ClosesAt p w left close.Spent (0 ∷ []) x) same (spent_closes p w left w.state.store.streams lacks.lacks)
+    subst (λ (x : Streams). ClosesAt p w left ending.Spent (0 ∷ []) x) same (spent_closes p w left w.state.store.streams lacks.lacks)
 
 -- the host is asked, and the vessel is the same
 pub asked_there : (p : Program) (v v' : View) (call : HostCall) → v' ≡ v → host_next p v ≡ Some call.name → host_next p v' ≢ None
@@ -163,7 +163,7 @@ asked_there p v v' call same asks none =
 -- nothing is left, or the host is asked: it is spent only where nothing is left
 pub unpaid_closes
     : (p : Program) (w : Pending) (v : View) (left : ℕ) (s : Streams) → (left ≡ 0) ⊎ (host_next p v ≢ None) → host_next p v ≡ None → Lacks p w 0 → w.state.store.streams ≡ s
-    → ClosesAt p w left close.Spent (0 ∷ []) s
+    → ClosesAt p w left ending.Spent (0 ∷ []) s
 unpaid_closes p w v left s (inl none) quiet lacks same = lacks_closes p w left s (subst (λ (l : ℕ). Lacks p w l) (sym none) lacks) same
 unpaid_closes p w v left s (inr asked) quiet lacks same = absurd (asked quiet)
 
@@ -181,12 +181,12 @@ free_more p w v1 v2 s a r = path_then p w [] [] v1 v2 s s a (free_path p a.next 
 pub more_free : (p : Program) (w : Pending) (v1 v2 : View) → v2 ≡ v1 → (a : Path p w [] v1 w.state.store.streams) → Pays p a.next → GoesOn p w v2
 more_free p w v1 v2 same a pays = subst (λ (x : View). GoesOn p w x) (sym same) (record { path = a; pays = pays })
 
-no_item : (end : Close) (price : ℕ) → price ≤ 0 → last_items end price ≡ item price → last_items end price ≡ []
+no_item : (end : Ending) (price : ℕ) → price ≤ 0 → last_items end price ≡ item price → last_items end price ≡ []
 no_item end zero free items = items
 no_item end (suc n) free items = let bad : ⊥ = omega (arith, free) in absurd bad
 
 pub ends_free
-    : (p : Program) (w : Pending) (v1 : View) (price : ℕ) (end : Close) → (a : Path p w [] v1 w.state.store.streams) → price ≤ 0 → RunsOut p a.next price (outcome_of end)
+    : (p : Program) (w : Pending) (v1 : View) (price : ℕ) (end : Ending) → (a : Path p w [] v1 w.state.store.streams) → price ≤ 0 → RunsOut p a.next price (outcome_of end)
     → last_items end price ≡ item price → EndsFree p w end
 ends_free p w v1 price end a free out items = record {
   at = λ left.
@@ -228,7 +228,7 @@ pub same_paying : (q got : ℕ) (p : Program) (w : Pending) (v1 v2 : View) (s : 
 same_paying q got p w v1 v2 s same a = subst (λ (x : View). Paying q p w x s got) (sym same) a
 
 pub breaks_off
-    : (most rest price : ℕ) (p : Program) (w : Pending) (v1 : View) (end : Close) → rest ≤ most → 1 ≤ rest → price ≤ rest
+    : (most rest price : ℕ) (p : Program) (w : Pending) (v1 : View) (end : Ending) → rest ≤ most → 1 ≤ rest → price ≤ rest
     → (a : Paying most p w v1 w.state.store.streams (most - rest)) → RunsOut p a.path.next price (outcome_of end) → last_items end price ≡ item price
     → BreaksOff most p w end (most - rest + price)
 breaks_off most rest price p w v1 end within some enough a out items = record {
@@ -243,7 +243,7 @@ breaks_off most rest price p w v1 end within some enough a out items = record {
 }
 
 pub breaks_for_nothing
-    : (most rest : ℕ) (p : Program) (w : Pending) (v1 : View) (end : Close) → rest ≤ most → 1 ≤ rest
+    : (most rest : ℕ) (p : Program) (w : Pending) (v1 : View) (end : Ending) → rest ≤ most → 1 ≤ rest
     → (a : Paying most p w v1 w.state.store.streams (most - rest)) → RunsOut p a.path.next 0 (outcome_of end) → last_items end 0 ≡ item 0
     → BreaksOff most p w end (most - rest)
 breaks_for_nothing most rest p w v1 end within some a out items =
@@ -326,7 +326,7 @@ pause_parts due most p w v' s got same within a (inr below) =
     subst (λ (x : Streams). Paying due p w v' x got) same (record { group = a.group; total = a.total; cut = inl (omega (arith, total, below)); path = a.path })
 
 pub break_parts
-    : (due most left : ℕ) (p : Program) (w : Pending) (s : Streams) (end : Close) (got : ℕ) → w.state.store.streams ≡ s → most ≤ due → got ≤ most → most ≤ left
+    : (due most left : ℕ) (p : Program) (w : Pending) (s : Streams) (end : Ending) (got : ℕ) → w.state.store.streams ≡ s → most ≤ due → got ≤ most → most ≤ left
     → BreaksOff most p w end got → EndsIn due p w left s end got
 break_parts due most left p w s end got same within fits enough b =
     let sum_is = b.paying.total in
@@ -351,7 +351,7 @@ pub part_pays
 part_pays q got more p w v1 v2 s1 s2 a below b = pays_more q (q - got) p w v1 v2 s1 s2 got more a below (omega (arith, below)) b
 
 pub part_finishes
-    : (q got more left : ℕ) (p : Program) (w : Pending) (v1 : View) (s1 s2 : Streams) (end : Close) → (a : Paying q p w v1 s1 got) → got < q → got ≤ left
+    : (q got more left : ℕ) (p : Program) (w : Pending) (v1 : View) (s1 s2 : Streams) (end : Ending) → (a : Paying q p w v1 s1 got) → got < q → got ≤ left
     → EndsIn (q - got) p a.path.next (left - got) s2 end more → Finishes q p w left s2 end (got + more)
 part_finishes q got more left p w v1 s1 s2 end a below within e =
     let sum_is = a.total in

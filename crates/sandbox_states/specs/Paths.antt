@@ -10,31 +10,31 @@ use Rattle.wasm_states.specs.Holding.{Holds, IsState, free_moves}
 use Rattle.wasm_states.specs.Steps.{item, Pays}
 use Rattle.wasm_step.specs.Asking.{host_next}
 use Rattle.sandbox_states.specs.Rests.{ArePaid}
-use Rattle.sandbox_states.specs.declared.runs.Close.{Close}
-use Rattle.sandbox_states.specs.declared.runs.Close.TheVariants as close
+use Rattle.sandbox_states.specs.declared.runs.Ending.{Ending}
+use Rattle.sandbox_states.specs.declared.runs.Ending.TheVariants as ending
 use Rattle.sandbox_states.specs.declared.runs.Pause.{Pause}
 use Rattle.sandbox_states.specs.declared.runs.Pause.TheVariants as pause
 use Rattle.sandbox_states.specs.declared.runs.Progress.{Progress}
 use Rattle.sandbox_states.specs.declared.runs.Progress.TheVariants as progress
-use Rattle.sandbox_states.specs.declared.runs.Rest.{Rest}
-use Rattle.sandbox_states.specs.declared.runs.Rest.TheVariants as rest
+use Rattle.sandbox_states.specs.declared.runs.Behind.{Behind}
+use Rattle.sandbox_states.specs.declared.runs.Behind.TheVariants as behind
 use Rattle.sandbox_states.specs.declared.runs.Stretch.{Stretch}
 use Rattle.sandbox_states.specs.declared.runs.Stretch.TheVariants as stretch
 
 -- How a run is over.
 
-abbrev pub outcome_of : Close → Outcome
-outcome_of close.Fell = Fell
-outcome_of (close.Exited code) = Exited code
-outcome_of (close.Trapped trap) = Trapped trap
-outcome_of close.Spent = Spent
+abbrev pub outcome_of : Ending → Outcome
+outcome_of ending.Fell = Fell
+outcome_of (ending.Exited code) = Exited code
+outcome_of (ending.Trapped trap) = Trapped trap
+outcome_of ending.Spent = Spent
 
 -- the prices of its last operator: one that was not paid counts nothing, and is told
-abbrev pub last_items : Close → (price : ℕ) → List ℕ
-last_items close.Spent price = 0 ∷ []
+abbrev pub last_items : Ending → (price : ℕ) → List ℕ
+last_items ending.Spent price = 0 ∷ []
 last_items end price = item price
 
-pub record Closes (run : Run) (end : Close) (prices : List ℕ) (streams : Streams) : Type 0 where
+pub record Closes (run : Run) (end : Ending) (prices : List ℕ) (streams : Streams) : Type 0 where
   pub outcome_is : run.outcome ≡ outcome_of end
   pub prices_are : run.prices ≡ prices
   pub reply_is : run.state.store.streams.reply ≡ streams.reply
@@ -56,7 +56,7 @@ pub record Path (p : Program) (w : Pending) (group : List ℕ) (v' : View) (stre
   pub onwards : Onwards p w group next
 
 -- with so much left the run closes so
-pub record ClosesAt (p : Program) (w : Pending) (left : ℕ) (end : Close) (prices : List ℕ) (streams : Streams) : Type 0 where
+pub record ClosesAt (p : Program) (w : Pending) (left : ℕ) (end : Ending) (prices : List ℕ) (streams : Streams) : Type 0 where
   pub at : (bound : ℕ) → left ≤ bound → Closes (onward (instance_of p) bound w left) end prices streams
 
 -- One operator.
@@ -82,7 +82,7 @@ pub record Paying (quantum : ℕ) (p : Program) (w : Pending) (v' : View) (strea
   pub path : Path p w group v' streams'
 
 -- so much was paid, and nothing goes on: the prices before the last operator do not reach the quantum
-pub record EndsIn (due : ℕ) (p : Program) (w : Pending) (left : ℕ) (streams' : Streams) (end : Close) (got : ℕ) : Type 0 where
+pub record EndsIn (due : ℕ) (p : Program) (w : Pending) (left : ℕ) (streams' : Streams) (end : Ending) (got : ℕ) : Type 0 where
   pub front : List ℕ
   pub price : ℕ
   pub below : sum front < due
@@ -97,7 +97,7 @@ Parts due p w left v' streams' progress.Free = Path p w [] v' streams'
 Parts due p w left v' streams' (progress.Over end got) = EndsIn due p w left streams' end got
 
 -- operators of the function alone: they stop where all is paid out or the host is asked, or the run is over whatever more is left
-pub record BreaksOff (most : ℕ) (p : Program) (w : Pending) (end : Close) (got : ℕ) : Type 0 where
+pub record BreaksOff (most : ℕ) (p : Program) (w : Pending) (end : Ending) (got : ℕ) : Type 0 where
   pub before : ℕ
   pub vessel : View
   pub paying : Paying most p w vessel w.state.store.streams before
@@ -125,7 +125,7 @@ pub record Reaches (quantum : ℕ) (p : Program) (w : Pending) (v' : View) (stre
   pub path : Path p w group v' streams'
 
 -- the run is over in this turn
-pub record Finishes (quantum : ℕ) (p : Program) (w : Pending) (left : ℕ) (streams' : Streams) (end : Close) (got : ℕ) : Type 0 where
+pub record Finishes (quantum : ℕ) (p : Program) (w : Pending) (left : ℕ) (streams' : Streams) (end : Ending) (got : ℕ) : Type 0 where
   pub prices : List ℕ
   pub total : sum prices ≡ got
   pub last : turns prices quantum ≡ 1
@@ -147,16 +147,16 @@ pub record GoesOn (p : Program) (w : Pending) (v' : View) : Type 0 where
   pub pays : Pays p path.next
 
 -- whatever is left, it is over for nothing
-pub record EndsFree (p : Program) (w : Pending) (end : Close) : Type 0 where
+pub record EndsFree (p : Program) (w : Pending) (end : Ending) : Type 0 where
   pub at : (left : ℕ) → ClosesAt p w left end [] w.state.store.streams
 
-abbrev pub KeepsRest : Program → (v' : View) → Rest → Type 0
-KeepsRest p v' rest.More = IsState p v'
-KeepsRest p v' (rest.Over end) = Unit {0}
+abbrev pub KeepsBehind : Program → (v' : View) → Behind → Type 0
+KeepsBehind p v' behind.More = IsState p v'
+KeepsBehind p v' (behind.Over end) = Unit {0}
 
-abbrev pub Rests : Program → (w : Pending) → (v' : View) → Rest → Type 0
-Rests p w v' rest.More = GoesOn p w v'
-Rests p w v' (rest.Over end) = EndsFree p w end
+abbrev pub LiesBehind : Program → (w : Pending) → (v' : View) → Behind → Type 0
+LiesBehind p w v' behind.More = GoesOn p w v'
+LiesBehind p w v' (behind.Over end) = EndsFree p w end
 
 -- a whole turn
 pub record TurnsOn (quantum : ℕ) (p : Program) (w : Pending) (v' : View) (streams' : Streams) (got : ℕ) : Type 0 where

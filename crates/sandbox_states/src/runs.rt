@@ -1,6 +1,6 @@
 //! The operators of a turn.
 ghost use Rattle.std.specs.Prelude.{◌≡◌, ◌≢◌, ◌⊎◌, None, ◌+◌, ◌-◌, ◌*◌, ◌^◌, ◌<◌, ◌≤◌};
-ghost use Rattle.sandbox_states.specs.Paths.{Advances, Keeps, KeepsGroup, KeepsPause, KeepsRest, Parts, Pauses, Quantum, Rests, Stretches};
+ghost use Rattle.sandbox_states.specs.Paths.{Advances, Keeps, KeepsGroup, KeepsPause, KeepsBehind, Parts, Pauses, Quantum, LiesBehind, Stretches};
 ghost use Rattle.wasm_meaning.specs.Pending.{Pending};
 ghost use Rattle.wasm_states.specs.Holding.{Holds, IsState};
 ghost use Rattle.wasm_states.specs.HostCalls.{IsHost};
@@ -14,7 +14,7 @@ use wasm_store::Vessel;
 
 /// How a run is over.
 #[derive(Clone, Copy, Debug, PartialEq, Eq)]
-pub(crate) enum Close {
+pub(crate) enum Ending {
     /// All functions came to their ends.
     Fell,
 
@@ -38,7 +38,7 @@ pub(crate) enum Progress {
     Free,
 
     /// The run is over, and the operator cost so many units.
-    Over { end: Close, price: u64 },
+    Over { end: Ending, price: u64 },
 }
 
 /// What came of operators of the function alone.
@@ -51,7 +51,7 @@ pub(crate) enum Pause {
     Asked { paid: u64 },
 
     /// The run is over, after so many units.
-    Over { end: Close, paid: u64 },
+    Over { end: Ending, paid: u64 },
 }
 
 /// What came of operators that are to reach a quantum.
@@ -61,17 +61,17 @@ pub(crate) enum Stretch {
     Reached { paid: u64 },
 
     /// The run is over, after so many units.
-    Over { end: Close, paid: u64 },
+    Over { end: Ending, paid: u64 },
 }
 
 /// What is left where a quantum was reached.
 #[derive(Clone, Copy, Debug, PartialEq, Eq)]
-pub(crate) enum Rest {
+pub(crate) enum Behind {
     /// An operator that is to be paid.
     More,
 
     /// Nothing: the run is over for nothing.
-    Over(Close),
+    Over(Ending),
 }
 
 // Carries out a call of the host.
@@ -93,11 +93,11 @@ fn carry_out(
     match host(call, vessel, streams, left) {
         HostStep::Went(price) => Progress::Paid(price),
         HostStep::Exited { code, price } => Progress::Over {
-            end: Close::Exited(code),
+            end: Ending::Exited(code),
             price,
         },
         HostStep::Short => Progress::Over {
-            end: Close::Spent,
+            end: Ending::Spent,
             price: 0,
         },
     }
@@ -119,15 +119,15 @@ fn advance(program: &Program, vessel: &mut Vessel, streams: &mut Streams, left: 
         Step::Free => Progress::Free,
         Step::Host(call) => carry_out(program, vessel, streams, call, left),
         Step::Trapped { trap, price } => Progress::Over {
-            end: Close::Trapped(trap),
+            end: Ending::Trapped(trap),
             price,
         },
         Step::Ended => Progress::Over {
-            end: Close::Fell,
+            end: Ending::Fell,
             price: 0,
         },
         Step::Short => Progress::Over {
-            end: Close::Spent,
+            end: Ending::Spent,
             price: 0,
         },
     }
@@ -159,11 +159,11 @@ fn run_operators(program: &Program, vessel: &mut Vessel, most: u64) -> Pause
             Step::Host(_) => return Pause::Asked { paid: most - rest },
             Step::Short => unreachable!(),
             Step::Ended => return Pause::Over {
-                end: Close::Fell,
+                end: Ending::Fell,
                 paid: most - rest,
             },
             Step::Trapped { trap, price } => return Pause::Over {
-                end: Close::Trapped(trap),
+                end: Ending::Trapped(trap),
                 paid: most - rest + price,
             },
         }
@@ -232,23 +232,23 @@ fn run_group(
 }
 
 // Moves on as long as it costs nothing.
-fn move_freely(program: &Program, vessel: &mut Vessel) -> Rest
+fn move_freely(program: &Program, vessel: &mut Vessel) -> Behind
     requires state { IsState program.now vessel.old }
-    ensures keeps { KeepsRest program.now vessel.new result }
-    ensures means { (w : Pending) → Holds program.now vessel.old w → Rests program.now w vessel.new result }
+    ensures keeps { KeepsBehind program.now vessel.new result }
+    ensures means { (w : Pending) → Holds program.now vessel.old w → LiesBehind program.now w vessel.new result }
     ensures pages { vessel.new.pages ≡ vessel.old.pages }
 {
     loop {
         match step(program, vessel, 0) {
             Step::Free => {}
             Step::Went(_) => unreachable!(),
-            Step::Host(_) => return Rest::More,
-            Step::Short => return Rest::More,
-            Step::Ended => return Rest::Over(Close::Fell),
+            Step::Host(_) => return Behind::More,
+            Step::Short => return Behind::More,
+            Step::Ended => return Behind::Over(Ending::Fell),
             Step::Trapped {
                 trap,
                 price: _price,
-            } => return Rest::Over(Close::Trapped(trap)),
+            } => return Behind::Over(Ending::Trapped(trap)),
         }
     }
 }
@@ -270,8 +270,8 @@ pub(crate) fn run_quantum(
 {
     match run_group(program, vessel, streams, left, quantum) {
         Stretch::Reached { paid } => match move_freely(program, vessel) {
-            Rest::More => Stretch::Reached { paid },
-            Rest::Over(end) => Stretch::Over { end, paid },
+            Behind::More => Stretch::Reached { paid },
+            Behind::Over(end) => Stretch::Over { end, paid },
         },
         Stretch::Over { end, paid } => Stretch::Over { end, paid },
     }

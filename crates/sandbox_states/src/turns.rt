@@ -7,7 +7,7 @@ ghost use Rattle.sandbox_states.specs.Paths.{outcome_of};
 ghost use Rattle.sandbox_states.specs.Stands.{IsSuspended, IsTurnOf, StandsFor, StandsInTurns, TurnStandsFor, TurnStandsInTurns};
 ghost use Rattle.sandbox_states.specs.Views.{remaining, told};
 
-use crate::runs::{Close, Stretch, run_quantum};
+use crate::runs::{Ending, Stretch, run_quantum};
 use crate::sandboxes::{Finished, Sandbox};
 use crate::verdicts::Verdict;
 use wasi_calls::Streams;
@@ -69,16 +69,16 @@ fn one_turn(sandbox: Sandbox, quantum: u64) -> Turn
 }
 
 // What became of a request whose run is over.
-fn concluded(end: Close, streams: Streams) -> Verdict
+fn concluded(end: Ending, streams: Streams) -> Verdict
     ensures { due.concluded (outcome_of end) streams.reply ≡ Some (told result) }
 {
     match end {
-        Close::Fell => Verdict::Replied(streams.into_reply()),
-        Close::Exited(code) => Verdict::Exit {
+        Ending::Fell => Verdict::Replied(streams.into_reply()),
+        Ending::Exited(code) => Verdict::Exit {
             code,
             reply: streams.into_reply(),
         },
-        Close::Trapped(trap) => Verdict::Trap(trap),
-        Close::Spent => Verdict::Spent,
+        Ending::Trapped(trap) => Verdict::Trap(trap),
+        Ending::Spent => Verdict::Spent,
     }
 }

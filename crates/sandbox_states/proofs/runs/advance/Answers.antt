@@ -1,7 +1,7 @@
 use Rattle.std.proofs.Common.{ℕ, ◌≤◌, refl, sym, arith}
 use Rattle.sandbox_states.proofs.PathLaws.{free_path}
 use Rattle.sandbox_states.proofs.StepLaws.{host_asked, out_closes, unpaid_closes}
-use Rattle.sandbox_states.specs.declared.runs.Close.TheVariants as close
+use Rattle.sandbox_states.specs.declared.runs.Ending.TheVariants as ending
 use Rattle.sandbox_states.proofs.runs.advance.Goals as goal
 
 zero_within : {left : ℕ} → 0 ≤ left
@@ -17,10 +17,10 @@ pub returns-in-Free-clause-means : goal.returns-in-Free-clause-means
 returns-in-Free-clause-means c w holds same = free_path c.args.program.now w c.step.new.vessel c.args.streams.now same (c.in-Free.ensures.means w holds)
 
 pub returns-in-Trapped-clause-means : goal.returns-in-Trapped-clause-means
-returns-in-Trapped-clause-means c w holds same = out_closes c.args.program.now w c.args.left c.in-Trapped.price (close.Trapped c.in-Trapped.trap) c.args.streams.now (cheap c.in-Trapped.ensures.keeps) (c.in-Trapped.ensures.means w holds) same refl
+returns-in-Trapped-clause-means c w holds same = out_closes c.args.program.now w c.args.left c.in-Trapped.price (ending.Trapped c.in-Trapped.trap) c.args.streams.now (cheap c.in-Trapped.ensures.keeps) (c.in-Trapped.ensures.means w holds) same refl
 
 pub returns-in-Ended-clause-means : goal.returns-in-Ended-clause-means
-returns-in-Ended-clause-means c w holds same = out_closes c.args.program.now w c.args.left 0 close.Fell c.args.streams.now zero_within (c.in-Ended.ensures.means w holds) same refl
+returns-in-Ended-clause-means c w holds same = out_closes c.args.program.now w c.args.left 0 ending.Fell c.args.streams.now zero_within (c.in-Ended.ensures.means w holds) same refl
 
 pub returns-in-Short-clause-means : goal.returns-in-Short-clause-means
 returns-in-Short-clause-means c w holds same = (refl, unpaid_closes c.args.program.now w c.args.vessel.now c.args.left c.args.streams.now c.requires.unpaid c.in-Short.ensures.asks (c.in-Short.ensures.means w holds).1 same)

@@ -2,7 +2,7 @@ use Rattle.std.proofs.Common.{ℕ, ◌≡◌, ◌≤◌, ◌<◌, ◌-◌, ◌+�
 use Rattle.wasm_store.specs.View.{View}
 use Rattle.wasm_states.specs.Holding.{IsState, free_moves}
 use Rattle.sandbox_states.proofs.StepLaws.{asked_there, init_paying, went_more, free_step, same_paying, breaks_off, breaks_for_nothing, paid_out}
-use Rattle.sandbox_states.specs.declared.runs.Close.TheVariants as close
+use Rattle.sandbox_states.specs.declared.runs.Ending.TheVariants as ending
 use Rattle.sandbox_states.proofs.runs.run_operators.Goals as goal
 
 pub loop-price-init : goal.loop-price-init
@@ -58,8 +58,8 @@ returns-in-Host-clause-means c w holds = same_paying c.args.most (c.args.most - 
 
 pub returns-in-Ended-clause-means : goal.returns-in-Ended-clause-means
 returns-in-Ended-clause-means c w holds =
-    (let a = c.loop-price.invariant.paying w holds in breaks_for_nothing c.args.most c.loop-price.rest c.args.program.now w c.loop-price.vessel close.Fell c.loop-price.invariant.within c.loop-price.invariant.some a (c.in-Ended.ensures.means a.path.next a.path.holds) refl)
+    (let a = c.loop-price.invariant.paying w holds in breaks_for_nothing c.args.most c.loop-price.rest c.args.program.now w c.loop-price.vessel ending.Fell c.loop-price.invariant.within c.loop-price.invariant.some a (c.in-Ended.ensures.means a.path.next a.path.holds) refl)
 
 pub returns-in-Trapped-clause-means : goal.returns-in-Trapped-clause-means
 returns-in-Trapped-clause-means c w holds =
-    (let a = c.loop-price.invariant.paying w holds in breaks_off c.args.most c.loop-price.rest c.in-Trapped.price c.args.program.now w c.loop-price.vessel (close.Trapped c.in-Trapped.trap) c.loop-price.invariant.within c.loop-price.invariant.some c.in-Trapped.ensures.keeps a (c.in-Trapped.ensures.means a.path.next a.path.holds) refl)
+    (let a = c.loop-price.invariant.paying w holds in breaks_off c.args.most c.loop-price.rest c.in-Trapped.price c.args.program.now w c.loop-price.vessel (ending.Trapped c.in-Trapped.trap) c.loop-price.invariant.within c.loop-price.invariant.some c.in-Trapped.ensures.keeps a (c.in-Trapped.ensures.means a.path.next a.path.holds) refl)

@@ -15,7 +15,6 @@ use wasm_validate::Valid;
 /// The program of a valid module that is given so many pages of 64 KiB, if it is linked to the host (WebAssembly Core 1.0, section 4.5.4, and WASI preview1).
 ///
 /// What refuses it is looked for in this order, and the first is answered: the imports, each of which is one of the host's functions and of its type; an export named `_start`, which is a function of no parameters and no result; the memory's first pages, which are no more than `pages`; the element segments, each within the first table; and the data segments, each within the first memory.
-/// It takes time in proportion to the module's lists, and memory for one small entry a function.
 pub fn link(alloc: Global, valid: Valid, pages: u32) -> Result<Program, LinkFault>
     ensures linked { Links result (link_due valid pages) }
 

@@ -2,6 +2,8 @@
 ghost use Rattle.std.specs.Prelude.{◌≤◌, IfOk};
 
 use super::*;
+use std::path::PathBuf;
+use std::process::Abort;
 use std::test::Fail;
 use std::{env, process};
 
@@ -72,100 +74,160 @@ impl Write for Drain {
     }
 }
 
-#[test]
-fn reaches_the_files_and_streams_of_the_system(rt: HostRuntime) -> Result<(), Fail> {
+// Whether a library answered these bytes, or this fault.
+fn is_answer(answer: &Result<Vec<u8>, Fetch>, want: Result<&str, Fetch>) -> bool {
+    match (answer, want) {
+        (Ok(bytes), Ok(text)) => bytes.as_slice() == text.as_bytes(),
+        (Err(fault), Err(wanted)) => *fault == wanted,
+        _ => false,
+    }
+}
+
+// A path that no other process uses.
+fn own_path(rt: &HostRuntime) -> Result<PathBuf, Fail> {
     let id = process::id(rt.process());
     let name = format!(in rt.alloc(); "outside_test_{id}")?;
-    let path = env::temp_dir(&rt)?.as_path().join(rt.alloc(), name)?;
-    let path = path.as_path();
-    fs::write(&rt, path.as_str(), b"contents")?;
-    let mut library = FileLibrary::new(&rt);
-    for (most, want) in [
-        (u64::MAX, "contents"),
-        (8, "contents"),
-        (7, "contents"),
-        (2, "con"),
-    ] {
-        let bytes = library
-            .read(rt.alloc(), path.as_str(), most)
-            .ok()
-            .ok_or("no bytes")?;
-        assert_eq!(rt; bytes.as_slice(), want.as_bytes(), "at {most}");
-    }
-    assert_eq!(rt; library.faults(), 0);
-    fs::remove_file(&rt, path.as_str())?;
-    let missing = library.read(rt.alloc(), path.as_str(), 9).err();
-    assert_eq!(rt; missing, Some(Fetch::Missing));
-    assert_eq!(rt; library.faults(), 1);
-    let folder_itself = library.read(rt.alloc(), "/", 9).err();
-    assert_eq!(rt; folder_itself, Some(Fetch::Failed));
-    assert_eq!(rt; library.faults(), 2);
+    Ok(env::temp_dir(rt)?.as_path().join(rt.alloc(), name)?)
+}
+
+// Reads a file of the system, and tells the faults so far.
+fn expect_file<R: Files + Abort>(
+    rt: &R,
+    alloc: Global,
+    library: &mut FileLibrary<'_, R>,
+    (path, most): (&str, u64),
+    want: Result<&str, Fetch>,
+) -> u64 {
+    let answer = library.read(alloc, path, most);
+    assert!(rt; is_answer(&answer, want), "{path} at {most}");
+    drop(answer);
+    library.faults()
+}
+
+fn read_files<R: Files + Abort>(rt: &R, alloc: Global, path: &str) -> io::Result<()> {
+    let mut library = FileLibrary::new(rt);
+    fs::write(rt, path, b"contents")?;
+    expect_file(rt, alloc, &mut library, (path, u64::MAX), Ok("contents"));
+    expect_file(rt, alloc, &mut library, (path, 8), Ok("contents"));
+    expect_file(rt, alloc, &mut library, (path, 7), Ok("contents"));
+    let faults = expect_file(rt, alloc, &mut library, (path, 2), Ok("con"));
+    assert_eq!(rt; faults, 0);
+    fs::remove_file(rt, path)?;
+    let faults = expect_file(rt, alloc, &mut library, (path, 9), Err(Fetch::Missing));
+    assert_eq!(rt; faults, 1);
+    let faults = expect_file(rt, alloc, &mut library, ("/", 9), Err(Fetch::Failed));
+    assert_eq!(rt; faults, 2);
+    Ok(())
+}
+
+#[test]
+fn reaches_the_files_of_the_system(rt: HostRuntime) -> Result<(), Fail> {
+    let path = own_path(&rt)?;
+    let result = read_files(&rt, rt.alloc(), path.as_path().as_str());
+    drop(path);
+    Ok(result?)
+}
+
+#[test]
+fn reaches_the_streams_of_the_system(rt: HostRuntime) {
     let mut out = StdSink::new(rt.stdout());
     assert_eq!(rt; out.write(b"to standard output\n"), Ok(()));
     assert_eq!(rt; out.faults(), 0);
+    drop(out);
     let mut notes = StdNotes::new(rt.stderr());
     assert_eq!(rt; notes.write(b"to standard error\n"), Ok(()));
     assert_eq!(rt; notes.faults(), 0);
-    Ok(())
+    drop(notes);
+}
+
+// Reads at most five bytes, and one more, of a file of eight.
+fn expect_read<R: Files + Abort>(
+    rt: &R,
+    alloc: Global,
+    steps: &'static [Step],
+    want: Result<&str, Fetch>,
+    faults: u64,
+) {
+    let mut library = FileLibrary::new(rt);
+    let mut file = Source {
+        steps: Steps(steps),
+        bytes: b"abcdefgh",
+    };
+    let answer = library.read_file(alloc, &mut file, 5);
+    assert!(rt; is_answer(&answer, want), "{steps:?}");
+    assert_eq!(rt; library.faults(), faults, "{steps:?}");
+    drop(answer);
 }
 
 #[test]
-fn reads_on_after_an_interrupted_call(rt: HostRuntime) -> Result<(), Fail> {
-    let rows: [(&'static [Step], Option<&str>, u64); 5] = [
-        (&[], Some("abcdef"), 0),
-        (&[Step::Moves(1), Step::Moves(2)], Some("abcdef"), 0),
-        (
-            &[Step::Interrupted, Step::Moves(1), Step::Interrupted],
-            Some("abcdef"),
-            2,
-        ),
-        (&[Step::Moves(3), Step::Moves(0)], Some("abc"), 0),
-        (&[Step::Moves(5), Step::Interrupted, Step::Broken], None, 2),
-    ];
-    for (steps, want, faults) in rows {
-        let mut library = FileLibrary::new(&rt);
-        let mut file = Source {
-            steps: Steps(steps),
-            bytes: b"abcdefgh",
-        };
-        match (library.read_file(rt.alloc(), &mut file, 5), want) {
-            (Ok(bytes), Some(want)) => assert_eq!(rt; bytes.as_slice(), want.as_bytes()),
-            (Err(fault), None) => assert_eq!(rt; fault, Fetch::Failed),
-            (result, _) => assert!(rt; false, "{steps:?} gave {result:?}"),
-        }
-        assert_eq!(rt; library.faults(), faults, "{steps:?}");
-    }
-    Ok(())
+fn reads_on_after_an_interrupted_call(rt: HostRuntime) {
+    use Step::{Broken, Interrupted, Moves};
+    expect_read(&rt, rt.alloc(), &[], Ok("abcdef"), 0);
+    expect_read(&rt, rt.alloc(), &[Moves(1), Moves(2)], Ok("abcdef"), 0);
+    expect_read(
+        &rt,
+        rt.alloc(),
+        &[Interrupted, Moves(1), Interrupted],
+        Ok("abcdef"),
+        2,
+    );
+    expect_read(&rt, rt.alloc(), &[Moves(3), Moves(0)], Ok("abc"), 0);
+    expect_read(
+        &rt,
+        rt.alloc(),
+        &[Moves(5), Interrupted, Broken],
+        Err(Fetch::Failed),
+        2,
+    );
+}
+
+// Writes "piece" to a stream.
+fn expect_written(
+    rt: &impl Abort,
+    alloc: Global,
+    steps: &'static [Step],
+    want: Result<(), Failed>,
+    taken: &str,
+    faults: u64,
+) {
+    let mut sink = StdSink::new(Drain {
+        steps: Steps(steps),
+        taken: Vec::new(alloc),
+    });
+    assert_eq!(rt; sink.write(b"piece"), want, "{steps:?}");
+    assert_eq!(rt; sink.stream.taken.as_slice(), taken.as_bytes(), "{steps:?}");
+    assert_eq!(rt; sink.faults(), faults, "{steps:?}");
+    drop(sink);
 }
 
 #[test]
-fn writes_all_or_fails(rt: HostRuntime) -> Result<(), Fail> {
-    let rows: [(&'static [Step], Result<(), Failed>, &str, u64); 6] = [
-        (&[], Ok(()), "piece", 0),
-        (&[Step::Moves(2), Step::Moves(1)], Ok(()), "piece", 0),
-        (
-            &[Step::Interrupted, Step::Moves(4), Step::Interrupted],
-            Ok(()),
-            "piece",
-            2,
-        ),
-        (&[Step::Moves(3), Step::Moves(0)], Err(Failed), "pie", 1),
-        (&[Step::Moves(1), Step::Broken], Err(Failed), "p", 1),
-        (
-            &[Step::Moves(5), Step::Interrupted, Step::Broken],
-            Err(Failed),
-            "piece",
-            2,
-        ),
-    ];
-    for (steps, want, taken, faults) in rows {
-        let mut sink = StdSink::new(Drain {
-            steps: Steps(steps),
-            taken: Vec::new(rt.alloc()),
-        });
-        assert_eq!(rt; sink.write(b"piece"), want, "{steps:?}");
-        assert_eq!(rt; sink.stream.taken.as_slice(), taken.as_bytes(), "{steps:?}");
-        assert_eq!(rt; sink.faults(), faults, "{steps:?}");
-    }
-    Ok(())
+fn writes_all_or_fails(rt: HostRuntime) {
+    use Step::{Broken, Interrupted, Moves};
+    expect_written(&rt, rt.alloc(), &[], Ok(()), "piece", 0);
+    expect_written(&rt, rt.alloc(), &[Moves(2), Moves(1)], Ok(()), "piece", 0);
+    expect_written(
+        &rt,
+        rt.alloc(),
+        &[Interrupted, Moves(4), Interrupted],
+        Ok(()),
+        "piece",
+        2,
+    );
+    expect_written(
+        &rt,
+        rt.alloc(),
+        &[Moves(3), Moves(0)],
+        Err(Failed),
+        "pie",
+        1,
+    );
+    expect_written(&rt, rt.alloc(), &[Moves(1), Broken], Err(Failed), "p", 1);
+    expect_written(
+        &rt,
+        rt.alloc(),
+        &[Moves(5), Interrupted, Broken],
+        Err(Failed),
+        "piece",
+        2,
+    );
 }

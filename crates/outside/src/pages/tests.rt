@@ -1,42 +1,110 @@
 // What a page takes, by values written out by hand, in rooms of many sizes and with each of its
 // calls cut in turn.
 use super::*;
+use std::process::Abort;
 use std::test::Fail;
 
-#[test]
-fn takes_what_fits_up_to_its_cuts(rt: HostRuntime) -> Result<(), Fail> {
-    // The room, the cut call and what it lets pass, which of three calls pass, what is taken.
-    let rows: [(u64, Option<(u64, u64)>, [bool; 3], &str); 12] = [
-        (0, None, [false, false, false], ""),
-        (3, None, [true, false, false], "one"),
-        (5, None, [true, false, false], "onetw"),
-        (6, None, [true, true, false], "onetwo"),
-        (7, None, [true, true, false], "onetwot"),
-        (11, None, [true, true, true], "onetwothree"),
-        (11, Some((0, 0)), [false, true, true], "twothree"),
-        (11, Some((0, 2)), [false, true, true], "ontwothree"),
-        (11, Some((0, 9)), [false, true, true], "onetwothree"),
-        (11, Some((1, 0)), [true, false, true], "onethree"),
-        (11, Some((1, 1)), [true, false, true], "onetthree"),
-        (11, Some((2, 4)), [true, true, false], "onetwothre"),
-    ];
-    for (room, cut, passes, want) in rows {
-        let mut failing = Vec::new(rt.alloc());
-        if let Some((call, passes)) = cut {
-            // Of two cuts of one call the first stands.
-            failing.push(Cut { call, passes })?;
-            failing.push(Cut { call, passes: 7 })?;
+// A cut of a call, by its number and what it lets pass. Of two cuts of one call the first stands.
+fn cuts(alloc: Global, cut: Option<(u64, u64)>) -> Result<Vec<Cut>, AllocError> {
+    match cut {
+        None => Ok(Vec::new(alloc)),
+        Some((call, passes)) => {
+            Vec::from_slice(alloc, &[Cut { call, passes }, Cut { call, passes: 7 }])
         }
-        let mut page = Page::new(rt.alloc(), room, failing)?;
-        let mut faults = 0u64;
-        for (piece, passes) in ["one", "two", "three"].iter().zip(passes.iter()) {
-            let result = page.write(piece.as_bytes());
-            assert_eq!(rt; result.is_ok(), *passes, "{piece} in {room} at {cut:?}");
-            faults = faults.saturating_add(u64::from(!*passes));
-        }
-        assert_eq!(rt; page.bytes(), want.as_bytes(), "{room} at {cut:?}");
-        assert_eq!(rt; page.faults(), faults, "{room} at {cut:?}");
-        assert_eq!(rt; page.write(b""), Ok(()), "nothing always fits");
     }
+}
+
+fn expect_write(rt: &impl Abort, page: &mut Page, piece: &str, passes: bool) {
+    let faults = page.faults();
+    let result = page.write(piece.as_bytes());
+    assert_eq!(rt; result.is_ok(), passes, "{piece}");
+    assert_eq!(rt;
+        page.faults(),
+        faults.saturating_add(u64::from(!passes)),
+        "{piece}"
+    );
+}
+
+// Writes "one", "two" and "three" to a page: which of the three pass, and what is taken.
+fn expect_taken(
+    rt: &impl Abort,
+    alloc: Global,
+    room: u64,
+    cut: Option<(u64, u64)>,
+    passes: [bool; 3],
+    taken: &str,
+) -> Result<(), AllocError> {
+    let mut page = Page::new(alloc, room, cuts(alloc, cut)?)?;
+    assert_eq!(rt; page.faults(), 0);
+    expect_write(rt, &mut page, "one", passes[0]);
+    expect_write(rt, &mut page, "two", passes[1]);
+    expect_write(rt, &mut page, "three", passes[2]);
+    assert_eq!(rt; page.bytes(), taken.as_bytes(), "{room} at {cut:?}");
+    expect_write(rt, &mut page, "", true);
+    drop(page);
+    Ok(())
+}
+
+#[test]
+fn takes_what_fits_in_its_room(rt: HostRuntime) -> Result<(), Fail> {
+    expect_taken(&rt, rt.alloc(), 0, None, [false, false, false], "")?;
+    expect_taken(&rt, rt.alloc(), 3, None, [true, false, false], "one")?;
+    expect_taken(&rt, rt.alloc(), 5, None, [true, false, false], "onetw")?;
+    expect_taken(&rt, rt.alloc(), 6, None, [true, true, false], "onetwo")?;
+    expect_taken(&rt, rt.alloc(), 7, None, [true, true, false], "onetwot")?;
+    expect_taken(&rt, rt.alloc(), 11, None, [true, true, true], "onetwothree")?;
+    Ok(())
+}
+
+#[test]
+fn takes_what_passes_its_cuts(rt: HostRuntime) -> Result<(), Fail> {
+    expect_taken(
+        &rt,
+        rt.alloc(),
+        11,
+        Some((0, 0)),
+        [false, true, true],
+        "twothree",
+    )?;
+    expect_taken(
+        &rt,
+        rt.alloc(),
+        11,
+        Some((0, 2)),
+        [false, true, true],
+        "ontwothree",
+    )?;
+    expect_taken(
+        &rt,
+        rt.alloc(),
+        11,
+        Some((0, 9)),
+        [false, true, true],
+        "onetwothree",
+    )?;
+    expect_taken(
+        &rt,
+        rt.alloc(),
+        11,
+        Some((1, 0)),
+        [true, false, true],
+        "onethree",
+    )?;
+    expect_taken(
+        &rt,
+        rt.alloc(),
+        11,
+        Some((1, 1)),
+        [true, false, true],
+        "onetthree",
+    )?;
+    expect_taken(
+        &rt,
+        rt.alloc(),
+        11,
+        Some((2, 4)),
+        [true, true, false],
+        "onetwothre",
+    )?;
     Ok(())
 }

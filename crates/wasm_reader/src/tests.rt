@@ -1,8 +1,10 @@
 //! The reader on one module of every part, and its refusals. `tests/module_table.py` has the tables, and `tests/modules.py` the files at their limits.
 
 use crate::{ReadFault, read_module};
+use std::alloc::Global;
+use std::process::Abort;
 use std::test::Fail;
-use wasm_ops::{Constant, GlobalDef, ImportItem, Limits, Op, Refusal, ValType};
+use wasm_ops::{Constant, GlobalDef, ImportItem, Limits, Module, Op, Refusal, ValType};
 
 // A module that has each part, spelt by hand after WebAssembly Core 1.0, section 5.5.
 const EACH_PART: [u8; 109] = [
@@ -23,89 +25,142 @@ const EACH_PART: [u8; 109] = [
     0x00, 0x06, 0x01, b'z', 0x00, 0x0B, 0x0C, 0x0D, // and another one
 ];
 
-#[test]
-fn each_part(rt: HostRuntime) -> Result<(), Fail> {
-    let module = read_module(rt.alloc(), &EACH_PART)?;
-    let types = module.types.as_slice();
-    assert_eq!(rt; types.len(), 1);
-    assert_eq!(rt; types[0].params.as_slice(), [ValType::I32].as_slice());
-    let imports = module.imports.as_slice();
-    assert_eq!(rt; imports.len(), 1);
-    assert_eq!(rt; imports[0].name.as_str(), "f");
-    assert_eq!(rt; imports[0].item, ImportItem::Function(0));
-    assert_eq!(rt; module.functions.as_slice(), [0].as_slice());
-    let table = Limits {
-        least: 2,
-        most: None,
-    };
-    assert_eq!(rt; module.tables.as_slice(), [table].as_slice());
-    let memory = Limits {
-        least: 1,
-        most: Some(3),
-    };
-    assert_eq!(rt; module.memories.as_slice(), [memory].as_slice());
-    let first = Constant {
+const TABLE: Limits = Limits {
+    least: 2,
+    most: None,
+};
+
+const MEMORY: Limits = Limits {
+    least: 1,
+    most: Some(3),
+};
+
+const GLOBAL: GlobalDef = GlobalDef {
+    value: ValType::I64,
+    mutable: true,
+    first: Constant {
         value: ValType::I64,
         bits: u64::MAX,
+    },
+};
+
+fn expect_types(rt: &impl Abort, module: &Module) {
+    let [function] = module.types.as_slice() else {
+        panic!(rt; "there is one type");
     };
-    let global = GlobalDef {
-        value: ValType::I64,
-        mutable: true,
-        first,
+    assert_eq!(rt; function.params.as_slice(), [ValType::I32].as_slice());
+    assert_eq!(rt; module.functions.as_slice(), [0].as_slice());
+}
+
+fn expect_import(rt: &impl Abort, module: &Module) {
+    let [import] = module.imports.as_slice() else {
+        panic!(rt; "there is one import");
     };
-    assert_eq!(rt; module.globals.as_slice(), [global].as_slice());
-    let exports = module.exports.as_slice();
-    assert_eq!(rt; exports.len(), 1);
-    assert_eq!(rt; exports[0].name.as_str(), "_start");
+    assert_eq!(rt; import.name.as_str(), "f");
+    assert_eq!(rt; import.item, ImportItem::Function(0));
+}
+
+fn expect_stores(rt: &impl Abort, module: &Module) {
+    assert_eq!(rt; module.tables.as_slice(), [TABLE].as_slice());
+    assert_eq!(rt; module.memories.as_slice(), [MEMORY].as_slice());
+    assert_eq!(rt; module.globals.as_slice(), [GLOBAL].as_slice());
+}
+
+fn expect_entries(rt: &impl Abort, module: &Module) {
+    let [export] = module.exports.as_slice() else {
+        panic!(rt; "there is one export");
+    };
+    assert_eq!(rt; export.name.as_str(), "_start");
     assert_eq!(rt; module.start, Some(1));
-    let elements = module.elements.as_slice();
-    assert_eq!(rt; elements.len(), 1);
-    assert_eq!(rt; elements[0].functions.as_slice(), [1].as_slice());
-    let bodies = module.bodies.as_slice();
-    assert_eq!(rt; bodies.len(), 1);
-    let ops = [Op::LocalGet(0), Op::End];
-    assert_eq!(rt; bodies[0].ops.as_slice(), ops.as_slice());
-    let segments = module.segments.as_slice();
-    assert_eq!(rt; segments.len(), 1);
-    assert_eq!(rt; segments[0].bytes.as_slice(), b"hi".as_slice());
+}
+
+fn expect_body(rt: &impl Abort, module: &Module) {
+    let [body] = module.bodies.as_slice() else {
+        panic!(rt; "there is one body");
+    };
+    assert_eq!(rt; body.ops.as_slice(), [Op::LocalGet(0), Op::End].as_slice());
+}
+
+fn expect_segments(rt: &impl Abort, module: &Module) {
+    let [elements] = module.elements.as_slice() else {
+        panic!(rt; "there is one element segment");
+    };
+    assert_eq!(rt; elements.functions.as_slice(), [1].as_slice());
+    let [segment] = module.segments.as_slice() else {
+        panic!(rt; "there is one data segment");
+    };
+    assert_eq!(rt; segment.bytes.as_slice(), b"hi".as_slice());
+}
+
+fn module_of(alloc: Global, bytes: &[u8]) -> Result<Module, ReadFault> {
+    read_module(alloc, bytes)
+}
+
+#[test]
+fn each_part(rt: HostRuntime) -> Result<(), Fail> {
+    let module = module_of(rt.alloc(), &EACH_PART)?;
+    expect_types(&rt, &module);
+    expect_import(&rt, &module);
+    expect_stores(&rt, &module);
+    expect_entries(&rt, &module);
+    expect_body(&rt, &module);
+    expect_segments(&rt, &module);
+    drop(module);
     Ok(())
 }
 
-// In the section of types: a count that is cut by the section's end, and a float type. In the file: a cut in a section's size.
+fn expect_refused(rt: &impl Abort, alloc: Global, bytes: &[u8], why: Refusal, place: u32) {
+    let answer = read_module(alloc, bytes);
+    let want = ReadFault::Bytes(why.at(place));
+    let is_wanted = match &answer {
+        Ok(_) => false,
+        Err(fault) => *fault == want,
+    };
+    assert!(rt; is_wanted, "{bytes:?}");
+    drop(answer);
+}
+
+// In the section of types, behind the header: a count that is cut by the section's end, and a float type. In the file: a cut in a section's size.
 #[test]
 fn refusals(rt: HostRuntime) {
-    let rows: [(&[u8], Refusal, u32); 3] = [
-        (&[0x01, 0x01, 0x80, 0x00], Refusal::SectionSize, 11),
-        (
-            &[0x01, 0x05, 0x01, 0x60, 0x01, 0x7D, 0x00],
-            Refusal::FloatType,
-            13,
-        ),
-        (&[0x01, 0x80], Refusal::CutShort, 10),
-    ];
-    for (section, why, place) in rows {
-        let mut bytes = [0; 15];
-        assert!(rt; section.len() < 8);
-        bytes[..8].copy_from_slice(&EACH_PART[..8]);
-        bytes[8..8 + section.len()].copy_from_slice(section);
-        let refused = read_module(rt.alloc(), &bytes[..8 + section.len()]).err();
-        assert_eq!(rt;
-            refused,
-            Some(ReadFault::Bytes(why.at(place))),
-            "{section:?}"
-        );
-    }
+    expect_refused(
+        &rt,
+        rt.alloc(),
+        b"\0asm\x01\0\0\0\x01\x01\x80\0",
+        Refusal::SectionSize,
+        11,
+    );
+    expect_refused(
+        &rt,
+        rt.alloc(),
+        b"\0asm\x01\0\0\0\x01\x05\x01\x60\x01\x7D\0",
+        Refusal::FloatType,
+        13,
+    );
+    expect_refused(
+        &rt,
+        rt.alloc(),
+        b"\0asm\x01\0\0\0\x01\x80",
+        Refusal::CutShort,
+        10,
+    );
+}
+
+fn expect_text(rt: &impl Abort, alloc: Global, fault: ReadFault, want: &str) -> Result<(), Fail> {
+    let text = format!(in alloc; "{fault}")?;
+    assert_eq!(rt; text.as_str(), want);
+    drop(text);
+    Ok(())
 }
 
 #[test]
 fn texts(rt: HostRuntime) -> Result<(), Fail> {
     let refused = ReadFault::Bytes(Refusal::BadMagic.at(0));
-    let text = format!(in rt.alloc(); "{refused}")?;
-    assert_eq!(rt;
-        text.as_str(),
-        "refusal 15 at byte 0: the file is no WebAssembly module"
-    );
-    let text = format!(in rt.alloc(); "{}", ReadFault::NoMemory)?;
-    assert_eq!(rt; text.as_str(), "out of memory");
-    Ok(())
+    expect_text(
+        &rt,
+        rt.alloc(),
+        refused,
+        "refusal 15 at byte 0: the file is no WebAssembly module",
+    )?;
+    expect_text(&rt, rt.alloc(), ReadFault::NoMemory, "out of memory")
 }

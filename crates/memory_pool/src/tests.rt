@@ -1,10 +1,11 @@
 //! Rows of pools of one berth, and two threads that hand berths round.
-ghost use Rattle.std.specs.Prelude.{◌≡◌};
+ghost use Rattle.std.specs.Prelude.{◌≡◌, IfOk, IfSome};
 ghost use Rattle.memory_pool.specs.Passing.{IsPassOf, IsTaken};
 ghost use Rattle.memory_pool.specs.Giving.{IsGiven};
 ghost use Rattle.wasm_store.specs.View.{empty};
 
 use crate::{Berth, Given, Pool, PoolPass};
+use std::alloc::{AllocError, Global};
 use std::test::Fail;
 use std::thread::{Threads, join};
 use wasm_store::Vessel;
@@ -40,24 +41,46 @@ fn one_berth(rt: HostRuntime) -> Result<(), Fail> {
     let Some(berth) = take_one(&pool, &mut pass) else {
         panic!(rt; "a berth is at home");
     };
-    assert!(rt; take_one(&pool, &mut pass).is_none());
-    assert!(rt; matches!(give_one(&pool, &mut pass, berth), Given::Home));
-    assert_eq!(rt; pool.close(pass).len(), 1);
+    let second = take_one(&pool, &mut pass);
+    assert!(rt; second.is_none());
+    drop(second);
+    let given = give_one(&pool, &mut pass, berth);
+    assert!(rt; matches!(given, Given::Home));
+    drop(given);
+    let berths = pool.close(pass);
+    assert_eq!(rt; berths.len(), 1);
+    drop(berths);
     Ok(())
+}
+
+// The berth of a pool of one.
+fn only_berth(alloc: Global) -> Result<Option<Berth>, AllocError>
+    ensures { IfOk result (λ taken. IfSome taken (λ berth. berth.pages ≡ 1)) }
+{
+    let (pool, mut pass) = Pool::new(alloc, 1, 1)?;
+    let berth = take_one(&pool, &mut pass);
+    drop(pool);
+    drop(pass);
+    Ok(berth)
 }
 
 #[test]
 fn berth_of_another_pool(rt: HostRuntime) -> Result<(), Fail> {
     let (pool, mut pass) = Pool::new(rt.alloc(), 1, 1)?;
-    let (second, mut second_pass) = Pool::new(rt.alloc(), 1, 1)?;
-    let Some(berth) = take_one(&second, &mut second_pass) else {
+    let Ok(Some(berth)) = only_berth(rt.alloc()) else {
         panic!(rt; "a berth is at home");
     };
     let Given::Kept(berth) = give_one(&pool, &mut pass, berth) else {
         panic!(rt; "no slot is empty");
     };
-    assert!(rt; take_one(&pool, &mut pass).is_some());
-    assert!(rt; matches!(give_one(&pool, &mut pass, berth), Given::Home));
+    let own = take_one(&pool, &mut pass);
+    assert!(rt; own.is_some());
+    drop(own);
+    let given = give_one(&pool, &mut pass, berth);
+    assert!(rt; matches!(given, Given::Home));
+    drop(given);
+    drop(pool);
+    drop(pass);
     Ok(())
 }
 
@@ -142,5 +165,7 @@ fn is_blank(berth: Berth) -> bool
 {
     let mut vessel = berth.into_vessel();
     let grown = vessel.grow(1, 1).is_some();
-    grown && vessel.memory().iter().all(|&byte| byte == 0)
+    let is_zero = vessel.memory().iter().all(|&byte| byte == 0);
+    drop(vessel);
+    grown && is_zero
 }

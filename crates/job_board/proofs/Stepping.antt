@@ -158,6 +158,7 @@ module _ {J : Type 0} (place_of : J → ℕ) (kind_of : J → Kind) (turns_of : 
         claims_at given s r id m me live free place there seen rests is h.0 h.1,
         (
           (λ _. (
+            (λ fixed. past_here s.words place m.0.notes ((r.seats id m.0 me).past (subst (λ (t : Terms J). t.fixed ≡ true) same fixed))),
             h.0,
             ap (λ (w : Word). (held_by m.0 place w, (place, Some h.0) ∷ m.1)) (sym is),
             subst (λ (w : Word). Fits m.0.terms place w h.0) (sym is) (subst (λ (t : Terms J). Fits t place seen h.0) (sym same) h.2),

@@ -24,9 +24,10 @@ IsFill old new place job fill.Filled = new ≡ noting old place (word 0 state.Wa
 IsFill old new place job (fill.Other back w) = (back ≡ job) × (w.state ≢ state.Vacant) × Sees old new place w
 
 module _ {J : Type 0} (place_of : J → ℕ) (kind_of : J → Kind) (turns_of : J → ℕ) (belongs : ℕ → J → J → Type 0) where
-  -- a job of the place, kind and turns that the word told, which belongs to the request of its place; the pass holds the place
+  -- a job of the place, kind and turns that the word told, which belongs to the request of its place; the pass holds the place. The word is past all that was noted of the place
   pub record Gets (old new : PassView J) (place : ℕ) (seen : Word) (job : J) : Type 0 where
     pub holds : new ≡ holding old place seen
+    pub past : old.terms.fixed ≡ true → RisesPast old.notes place seen
     pub stands : place_of job ≡ place
     pub told : board.told_by place_of kind_of turns_of belongs job ≡ seen
     pub owned : board.Belongs place_of kind_of turns_of belongs old.terms place job

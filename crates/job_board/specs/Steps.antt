@@ -50,8 +50,8 @@ module _ {J : Type 0} where
   both_noted v w = holder (v.parts + w.parts) v.terms v.held (v.notes ++ w.notes)
 
 module _ {J : Type 0} (place_of : J → ℕ) (kind_of : J → Kind) (turns_of : J → ℕ) (belongs : ℕ → J → J → Type 0) where
-  -- an exchange of the word that a claimer asks for: the place is held, and the job that the word tells is out; or the word found is noted
+  -- an exchange of the word that a claimer asks for: the place is held, and the job that the word tells is out; or the word found is noted. Either way the word found tells no less than what was noted of the place before
   abbrev pub claimed : Step (Option J) → Me (Option J) (Holder J) → (found : ℕ) → Me (Option J) (Holder J) → Type 0
   claimed st m found n =
-      (found ≡ st.first → (job : J) × (n ≡ (held_by m.0 st.word (word_of found), (st.word, Some job) ∷ m.1)) × board.Fits place_of kind_of turns_of belongs m.0.terms st.word (word_of found) job)
+      (found ≡ st.first → (m.0.terms.fixed ≡ true → RisesPast m.0.notes st.word (word_of found)) × (job : J) × (n ≡ (held_by m.0 st.word (word_of found), (st.word, Some job) ∷ m.1)) × board.Fits place_of kind_of turns_of belongs m.0.terms st.word (word_of found) job)
       × (found ≢ st.first → Noted m st.word found n)

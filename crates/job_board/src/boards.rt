@@ -1,5 +1,5 @@
 //! A board and its passes.
-ghost use Rattle.std.specs.Prelude.{◌≡◌, ◌<◌, ◌≤◌, true, None};
+ghost use Rattle.std.specs.Prelude.{◌≡◌, ◌^◌, ◌<◌, ◌≤◌, true, None};
 ghost use Rattle.job_board.specs.Boarding.{places_of, IsPassOf, noting, apart, second, together, RisesPast, IsWordOf};
 
 use crate::holders::{Charter, Holder};
@@ -21,7 +21,7 @@ pub struct Board<J: Placed> {
 }
 
 impl<J: Placed> Model for Board<J> {
-    ghost use Rattle.std.specs.Prelude.{◌≡◌, ◌<◌, ◌≤◌, [], true, vec_capacity};
+    ghost use Rattle.std.specs.Prelude.{◌≡◌, ◌^◌, ◌<◌, ◌≤◌, [], true, vec_capacity};
     ghost use Rattle.job_board.specs.Boarding.{BoardView};
     ghost use Rattle.job_board.specs.Ruled.{terms_of};
 
@@ -29,7 +29,7 @@ impl<J: Placed> Model for Board<J> {
 
     ghost view = { λ board. record { id = board.table.shared.table_id; terms = terms_of board.table.shared.key } };
 
-    ghost invariant = { λ board. (board.table.shared.table_id.words ≡ board.table.shared.table_id.slots) × (0 < board.table.shared.table_id.words) × (board.room.items ≡ []) × (board.table.shared.key.fixed ≡ true → board.table.shared.table_id.words ≤ vec_capacity board.room) };
+    ghost invariant = { λ board. (board.table.shared.table_id.words ≡ board.table.shared.table_id.slots) × (0 < board.table.shared.table_id.words) × (board.room.items ≡ []) × (board.table.shared.key.fixed ≡ true → board.table.shared.table_id.words ≤ vec_capacity board.room) × (board.table.shared.table_id.words < 2 ^ 32) × (board.table.shared.key.fixed ≡ true → board.table.shared.table_id.words ≤ 2 ^ 31) };
 }
 
 /// A thread's handle on a board. It takes no bytes.
@@ -53,6 +53,15 @@ impl<J> Model for BoardPass<J> {
 }
 
 impl<J: Placed> Board<J> {
+    /// How many places there are: at least one, and at most 2^31 on a board that was made of jobs.
+    pub fn places(&self) -> u32
+        ensures places { result ≡ places_of self.now }
+        ensures some { 1 ≤ result }
+        ensures few { self.now.terms.fixed ≡ true → result ≤ 2 ^ 31 }
+    {
+        self.table.slot_count() as u32
+    }
+
     /// One load of the place's word, which the pass notes. It takes no memory, and waits for nobody.
     ///
     /// On a board that was made of jobs the word tells no fewer turns than the pass has noted for the place before, and no job that goes back.

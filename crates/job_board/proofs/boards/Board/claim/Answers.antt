@@ -14,4 +14,4 @@ compare_exchange-found-requires g c =
 pub exchange-requires : goal.exchange-requires
 exchange-requires g c =
     let played = c.compare_exchange-found.ensures.2.0 (search rules) in
-    (search rules, (_, taken _ _ _ _ _ played.1))
+    (search rules, (_, taken _ _ _ _ _ played.2))

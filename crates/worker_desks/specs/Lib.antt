@@ -1,0 +1,9 @@
+pub mod Tasks
+pub mod Duties
+pub mod Desks
+pub mod Noted
+pub mod Sharing
+pub mod Parts
+pub mod Nexts
+pub mod Working
+pub mod Handed

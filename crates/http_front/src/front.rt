@@ -54,7 +54,7 @@ fn behind_item(alloc: Global, keep: bool) -> State
     }
 }
 
-/// Takes bytes of a body.
+/// Takes bytes of a body. The room grows with what comes, never by what the head announces alone.
 fn gather<'a>(
     alloc: Global,
     due: Due,
@@ -103,10 +103,7 @@ fn open(alloc: Global, opening: Opening, behind: &[u8]) -> Result<Step<'_>, Allo
             state: State::Over,
             rest: &[],
         }),
-        Opening::Awaits { due, size } => {
-            let got = Vec::with_capacity(alloc, size)?;
-            gather(alloc, due, size, got, behind)
-        }
+        Opening::Awaits { due, size } => gather(alloc, due, size, Vec::new(alloc), behind),
     }
 }
 

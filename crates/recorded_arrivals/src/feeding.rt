@@ -23,7 +23,7 @@ const TOO_MANY_REQUESTS: u8 = 77;
 /// All items of all connections, each once, in the order in which they are complete: by the record of the piece that completes them, then by their place in the stream. Behind them come those that the ends of the streams complete, connection by connection.
 ///
 /// A recording that has more than 4,096 is refused as 77. The only other error is want of memory.
-/// Each byte is looked at once, but for the head of a request that comes in several pieces. Memory is taken for the items, and for each connection for what has come of an unfinished request, with the room of its whole body.
+/// Each byte is looked at once, but for the head of a request that comes in several pieces. Memory is taken for the items, and for each connection for what has come of an unfinished request, at most about twice that; a body that is announced and does not come takes none.
 pub fn arrivals_of(alloc: Global, recording: &Recording) -> Result<Vec<Arrival>, RecordingFault>
     ensures all { IfOk result (λ all. map arrival_seen all.items ≡ arrivals recording.now) }
     ensures few { IfOk result (λ all. vec_len all ≤ 4096) }

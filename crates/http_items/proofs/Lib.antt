@@ -2,5 +2,6 @@ pub mod ReaderLaws
 pub mod HeadLaws
 pub mod FrontLaws
 pub mod ItemLaws
+pub mod LimitLaws
 pub mod StandingLaws
 mod ItemExamples

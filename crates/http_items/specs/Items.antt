@@ -1,12 +1,12 @@
 -- The items of one connection's bytes: its requests and its refusals, over the whole list of bytes (RFC 9112 sections 2.2, 6 and 9).
-use Rattle.std.specs.Prelude.{◌≡◌, ℕ, zero, suc, Bool, true, false, ◌&&◌, List, [], ◌∷◌, ◌++◌, length, take, drop, Option, Some, None, if◌then◌else◌, ◌==◌, nat_le}
+use Rattle.std.specs.Prelude.{◌≡◌, ◌≤◌, ℕ, zero, suc, Bool, true, false, ◌&&◌, List, [], ◌∷◌, ◌++◌, length, take, drop, Option, Some, None, if◌then◌else◌, ◌==◌, nat_le}
 use Rattle.httparse.specs.Ascii.{line_feed, carriage_return}
 use Rattle.httparse.specs.Grammar.{RequestHead}
 use Rattle.http_items.specs.declared.methods.Method.{Method}
 use Rattle.http_items.specs.declared.refusals.Refusal.TheVariants.{BadHead, CutBody}
 use Rattle.http_items.specs.Refusals.{number_of}
 use Rattle.http_items.specs.Heads.{head_in, most_head}
-use Rattle.http_items.specs.Headings.{heading_of, Due, Serve, Refuse, due_to_head, Opening, Refused, Awaits, opening_of}
+use Rattle.http_items.specs.Headings.{heading_of, Due, Serve, Refuse, due_to_head, Opening, Refused, Awaits, opening_of, most_body}
 
 -- a request, or the number of a refusal
 pub data Heard : Type 0 where
@@ -76,3 +76,8 @@ items text ended = items_upto (length text) text ended
 -- the first items of a stream
 abbrev pub BeginsWith : (all first : List Heard) → Type 0
 BeginsWith all first = (left : List Heard) × (all ≡ first ++ left)
+
+-- a body within the limit, or the number of a refusal that the bytes of a connection alone have: no route and no meter is asked for it
+abbrev pub IsWithin : Heard → Type 0
+IsWithin (Asked method path keep body) = length body ≤ most_body
+IsWithin (Faulty number head keep) = (1 ≤ number) × (number ≤ 8)

@@ -1,9 +1,10 @@
 //! Laws of the definitions. The functions do nothing: their contracts are the laws.
 ghost use Rattle.std.specs.Prelude.{◌≡◌, ℕ, Bool, false, List, ◌++◌, Some};
+ghost use Rattle.std.specs.List.{AllByRecursion};
 ghost use Rattle.httparse.specs.Grammar.{RequestHead};
 ghost use Rattle.http_items.specs.declared.refusals.Refusal.{Refusal};
 ghost use Rattle.http_items.specs.Heads.{head_in, IsHead};
-ghost use Rattle.http_items.specs.Items.{front, onward, items, BeginsWith};
+ghost use Rattle.http_items.specs.Items.{front, onward, items, BeginsWith, IsWithin};
 ghost use Rattle.http_items.specs.Refusals.{number_of, refusal_numbered};
 
 /// The reader of heads finds what the grammar of `httparse` has as a request head, within both limits, and nothing else. A head that is there stays with further bytes behind it.
@@ -17,6 +18,11 @@ pub fn heads_of_the_grammar()
 pub fn items_in_order()
     ensures step { (text : List ℕ) (ended : Bool) → items text ended ≡ onward (front text ended) (λ rest. items rest ended) }
     ensures begin { (text more : List ℕ) (ended : Bool) → BeginsWith (items (text ++ more) ended) (items text false) }
+{}
+
+/// The body of a request has at most 1 MiB, and each refusal of a stream's items has a number from 1 to 8: 9 and 10 are of requests whose route or whose tenant's meter refuses them.
+pub fn items_have_numbers()
+    ensures within { (text : List ℕ) (ended : Bool) → AllByRecursion IsWithin (items text ended) }
 {}
 
 /// Each refusal has a number of its own.

@@ -1,7 +1,5 @@
--- How many items a recording may have, and what is known of each.
-use Rattle.std.specs.Prelude.{◌≡◌, ℕ, ◌≤◌, Bool, true, List, length, nat_lt}
-use Rattle.http_items.specs.Headings.{most_body}
-use Rattle.http_items.specs.Items.{Heard, Asked, Faulty}
+-- How many items a recording may have.
+use Rattle.std.specs.Prelude.{◌≡◌, ℕ, Bool, true, List, length, nat_lt}
 use Rattle.recording_format.specs.declared.faults.RecordingFault.{RecordingFault}
 use Rattle.recording_format.specs.declared.faults.RecordingFault.TheVariants.{Refused, NoMemory}
 use Rattle.recording_format.specs.declared.records.Record.{Record}
@@ -23,8 +21,3 @@ too_many_requests = 77
 abbrev pub IsTooMany : (records : List Record) → RecordingFault → Type 0
 IsTooMany records (Refused number) = (number ≡ too_many_requests) × (has_too_many records ≡ true)
 IsTooMany records NoMemory = Unit {0}
-
--- a body within the limit, or the number of a refusal that bytes have
-abbrev pub IsWithin : Heard → Type 0
-IsWithin (Asked method path keep body) = length body ≤ most_body
-IsWithin (Faulty number head keep) = (1 ≤ number) × (number ≤ 10)

@@ -1,14 +1,13 @@
 //! Laws of the definitions. The functions do nothing: their contracts are the laws.
 ghost use Rattle.std.specs.Prelude.{◌≡◌, ◌<◌, ℕ, List, Some, true, length, slice_get};
 ghost use Rattle.std.specs.List.{AllByRecursion};
-ghost use Rattle.http_items.specs.Items.{items};
+ghost use Rattle.http_items.specs.Items.{items, IsWithin};
 ghost use Rattle.recording_format.specs.declared.records.Record.{Record};
 ghost use Rattle.recording_format.specs.Connections.{Connection, connections_of, stream_of, tenants_of};
 ghost use Rattle.recording_format.specs.Following.{IsLegal};
 ghost use Rattle.recorded_arrivals.specs.Arrivals.{Arrived, arrivals, heard_on};
-ghost use Rattle.recorded_arrivals.specs.Limits.{IsWithin};
 
-use http_items::items_in_order;
+use http_items::{items_have_numbers, items_in_order};
 
 /// What arrives on a connection is, in order, just the items of its joined bytes, once its stream has ended.
 pub fn items_of_connections()
@@ -17,8 +16,10 @@ pub fn items_of_connections()
     items_in_order();
 }
 
-/// The body of a request that arrives has at most 1 MiB, and a refusal that its bytes have is one of those with a number. Each item is on a connection that begins.
+/// The body of a request that arrives has at most 1 MiB, and a refusal that its bytes have has a number from 1 to 8. Each item is on a connection that begins.
 pub fn items_within_limits()
     ensures within { (records : List Record) → AllByRecursion (λ (a : Arrived). IsWithin a.heard) (arrivals records) }
     ensures begun { (records : List Record) → IsLegal records → AllByRecursion (λ (a : Arrived). a.link < length (tenants_of records)) (arrivals records) }
-{}
+{
+    items_have_numbers();
+}

@@ -7,9 +7,8 @@ use Rattle.admission.specs.Bucket.{Bucket}
 use Rattle.admission.specs.Metering.{Question, ask, behind, behind_all}
 use Rattle.admission.specs.declared.meters.Admission.{Admission}
 use Rattle.admission.specs.declared.meters.Admission.TheVariants.{Entered, Spent}
-use Rattle.http_items.specs.Items.{Heard, Asked, Faulty}
+use Rattle.http_items.specs.Items.{Heard, Asked, Faulty, IsWithin}
 use Rattle.recorded_arrivals.specs.Arrivals.{Arrived}
-use Rattle.recorded_arrivals.specs.Limits.{IsWithin}
 use Rattle.serve_config.specs.declared.tenants.Tenant.{Tenant}
 use Rattle.serve_config.specs.Routing.{HasNumber, all_routes, route_number}
 use Rattle.recorded_runner.specs.Fates.{Fate, Refuses, Admits, Decided, meter_of, no_meter, meter_at_first, asked_for, asked_of, asked_in, meter_behind, fate_by_answer, fate_by_route, fate_of_heard, fate_of, decided_item, decided_behind}

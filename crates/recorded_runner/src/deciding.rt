@@ -4,7 +4,7 @@ ghost use Rattle.std.specs.List.{AllByRecursion};
 ghost use Rattle.admission.specs.Metering.{behind_all};
 ghost use Rattle.http_front.specs.Views.{heard_of};
 ghost use Rattle.recorded_arrivals.specs.Arrivals.{Arrived};
-ghost use Rattle.recorded_arrivals.specs.Limits.{IsWithin};
+ghost use Rattle.http_items.specs.Items.{IsWithin};
 ghost use Rattle.recorded_arrivals.specs.Seen.{arrival_seen};
 ghost use Rattle.serve_config.specs.Ranges.{IsRouteInRange};
 ghost use Rattle.serve_config.specs.Routing.{all_routes};

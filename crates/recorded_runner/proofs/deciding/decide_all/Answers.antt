@@ -5,7 +5,7 @@ use Rattle.std.proofs.lemmas.Iterator.Consumers.{YieldsList-turn}
 use Rattle.admission.specs.Bucket.{Bucket}
 use Rattle.admission.specs.Metering.{behind_all}
 use Rattle.recorded_arrivals.specs.Arrivals.{Arrived}
-use Rattle.recorded_arrivals.specs.Limits.{IsWithin}
+use Rattle.http_items.specs.Items.{IsWithin}
 use Rattle.recorded_arrivals.specs.Seen.{arrival_seen}
 use Rattle.recorded_runner.specs.Fates.{no_meter, asked_of, decided_behind}
 use Rattle.recorded_runner.specs.Seen.{decided_seen}

@@ -2,7 +2,7 @@ use Rattle.std.proofs.Common.{◌≡◌, ℕ, ◌<◌, ◌≤◌, List, [], leng
 use Rattle.std.proofs.lemmas.List.{length-map}
 use Rattle.std.specs.List.{AllByRecursion}
 use Rattle.recorded_arrivals.specs.Arrivals.{Arrived, arrivals}
-use Rattle.recorded_arrivals.specs.Limits.{IsWithin}
+use Rattle.http_items.specs.Items.{IsWithin}
 use Rattle.recorded_arrivals.specs.Seen.{arrival_seen}
 use Rattle.recording_format.specs.declared.records.Record.{Record}
 use Rattle.recording_format.specs.Connections.{tenants_of}

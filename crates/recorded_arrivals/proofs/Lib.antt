@@ -3,3 +3,4 @@ pub mod FrontsLaws
 pub mod FeedingLaws
 pub mod LimitLaws
 pub mod ConnectionItems
+pub mod CountLaws

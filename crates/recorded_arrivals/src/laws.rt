@@ -1,6 +1,6 @@
 //! Laws of the definitions. The functions do nothing: their contracts are the laws.
 ghost use Rattle.std.specs.Prelude.{◌≡◌, ◌<◌, ℕ, List, Some, true, length, slice_get};
-ghost use Rattle.std.specs.List.{AllByRecursion};
+ghost use Rattle.std.specs.List.{AllByRecursion, flat_map};
 ghost use Rattle.http_items.specs.Items.{items, IsWithin};
 ghost use Rattle.recording_format.specs.declared.records.Record.{Record};
 ghost use Rattle.recording_format.specs.Connections.{Connection, connections_of, stream_of, tenants_of};
@@ -9,9 +9,10 @@ ghost use Rattle.recorded_arrivals.specs.Arrivals.{Arrived, arrivals, heard_on};
 
 use http_items::{items_have_numbers, items_in_order};
 
-/// What arrives on a connection is, in order, just the items of its joined bytes, once its stream has ended.
+/// What arrives on a connection is, in order, just the items of its joined bytes, once its stream has ended. So the arrivals are as many as the items of all connections together.
 pub fn items_of_connections()
-    ensures { (records : List Record) (link : ℕ) (connection : Connection) → slice_get (connections_of records) link ≡ Some connection → heard_on link (arrivals records) ≡ items (stream_of connection) true }
+    ensures each { (records : List Record) (link : ℕ) (connection : Connection) → slice_get (connections_of records) link ≡ Some connection → heard_on link (arrivals records) ≡ items (stream_of connection) true }
+    ensures together { (records : List Record) → IsLegal records → length (arrivals records) ≡ length (flat_map (λ (c : Connection). items (stream_of c) true) (connections_of records)) }
 {
     items_in_order();
 }

@@ -6,6 +6,7 @@ use outside::Text;
 /// A request whose head and body have come.
 #[derive(Debug, Drop, PartialEq, Eq)]
 pub struct Ask {
+    /// The method, one of the three that are served.
     pub method: Method,
 
     /// The path that the target names, without its query: `/` and what follows, in ASCII.
@@ -21,6 +22,7 @@ pub struct Ask {
 /// A request, or the refusal that comes in the place of one.
 #[derive(Debug, Drop, PartialEq, Eq)]
 pub enum Item {
+    /// A request to a path, which may still have no route.
     Request(Ask),
 
     /// The refusal with this number, from 1 to 8.

@@ -97,6 +97,7 @@ impl Refusal {
     }
 }
 
+/// The text that the reply has as its body (`text`).
 impl Display for Refusal {
     fn fmt<W: Write>(&self, f: &mut Formatter<W>) -> fmt::Result {
         f.write_str(self.text())

@@ -8,6 +8,7 @@ pub struct Played {
     /// The replies, connection by connection, in the format SLA1 (`docs/FORMATS.md`).
     pub text: Vec<u8>,
 
+    /// What all of them together took.
     pub summary: Summary,
 }
 

@@ -7,6 +7,7 @@ mod Tabling
 mod Inserting
 mod Making
 mod Numbering
-mod Programs
+pub mod Programs
 mod Places
 mod Loadings
+mod ToldLoads

@@ -1,6 +1,7 @@
 -- What is made of a file's bytes, by what they spell.
-use Rattle.std.proofs.Common.{◌≡◌, ℕ, ◌<◌, ◌≤◌, Bool, true, false, nat_lt, cond, List, length, Result, Ok, Err, inl, inr, refl, sym, ap, ◌∙◌, arith}
+use Rattle.std.proofs.Common.{◌≡◌, ℕ, ◌+◌, ◌<◌, ◌≤◌, Bool, true, false, nat_lt, min, cond, List, length, take, Result, Ok, Err, inl, inr, refl, sym, ap, ◌∙◌, arith}
 use Rattle.std.proofs.lemmas.Bool.Decides.{nat_tests}
+use Rattle.std.proofs.lemmas.List.{length-take, take_all}
 use Rattle.wasm_ops.specs.declared.faults.Fault.{Fault}
 use Rattle.wasm_ops.specs.declared.modules.Module.{Module}
 use Rattle.wasm_code.specs.Bodies.{beginning}
@@ -33,3 +34,25 @@ made_of_refused pages bytes fault (inl many) =
 made_of_refused pages bytes fault (inr item) =
     ap (unless_long pages bytes) (is_short most_bytes (length bytes) item.small)
     ∙ ap (module_read pages) ((whole_module_decided.decides (beginning bytes)).only_refused fault item.refused)
+
+-- One byte more than a file may have does for all of it.
+
+more_is_long : (most n : ℕ) → nat_lt most (min (most + 1) n) ≡ nat_lt most n
+more_is_long most n = grind (arith, nat_tests)
+
+fits : (most n : ℕ) → nat_lt most n ≡ false → n ≤ most + 1
+fits most n short = grind (arith, nat_tests)
+
+too_long : (pages : ℕ) (bytes : List ℕ) → nat_lt most_bytes (length bytes) ≡ true → program_of pages bytes ≡ Err (record { number = 21; place = 0 })
+unfolding program_of
+too_long pages bytes long = ap (unless_long pages bytes) long
+
+pub program_front : (pages : ℕ) (whole : List ℕ) → program_of pages (take (most_bytes + 1) whole) ≡ program_of pages whole
+program_front pages whole = at (nat_lt most_bytes (length whole)) refl
+  where
+    same_test : nat_lt most_bytes (length (take (most_bytes + 1) whole)) ≡ nat_lt most_bytes (length whole)
+    same_test = ap (nat_lt most_bytes) (length-take (most_bytes + 1) whole) ∙ more_is_long most_bytes (length whole)
+
+    at : (b : Bool) → nat_lt most_bytes (length whole) ≡ b → program_of pages (take (most_bytes + 1) whole) ≡ program_of pages whole
+    at true long = too_long pages (take (most_bytes + 1) whole) (same_test ∙ long) ∙ sym (too_long pages whole long)
+    at false short = ap (program_of pages) (take_all (most_bytes + 1) whole (fits most_bytes (length whole) short))

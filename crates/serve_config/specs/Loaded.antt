@@ -3,6 +3,7 @@ use Rattle.std.specs.Prelude.{◌≡◌, ◌<◌, ℕ, List, length, map, Result
 use Rattle.std.specs.Arc.{arc_value}
 use Rattle.std.specs.declared.alloc.Global.{Global}
 use Rattle.std.specs.declared.sync.Arc.{Arc}
+use Rattle.outside.specs.Faults.{Rose}
 use Rattle.wasm_meaning.specs.Programs.{Program}
 use Rattle.serve_config.specs.declared.tenants.Route.{Route}
 use Rattle.serve_config.specs.Loading.{Unfit, Unloaded, NotRead, IsUnfit}
@@ -39,3 +40,7 @@ abbrev pub IsAmong : List Route → LoadFault → Type 0
 IsAmong routes (Read route) = route < length routes
 IsAmong routes (Module route refusal place) = route < length routes
 IsAmong routes NoMemory = Unit {0}
+
+-- the file of a route was not read, for a read failed and was counted
+abbrev pub HasFailed : Result (List Program) Unloaded → (before now : ℕ) → Type 0
+HasFailed came before now = (route : ℕ) × (came ≡ Err (NotRead route)) × Rose before now

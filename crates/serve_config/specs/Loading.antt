@@ -1,5 +1,5 @@
 -- The programs of routes: for each in order its file is read, and then the module that the bytes spell, which is validated and linked.
-use Rattle.std.specs.Prelude.{◌≡◌, ◌⊎◌, ℕ, suc, nat_lt, if◌then◌else◌, List, [], ◌∷◌, length, Option, None, Some, Result, Ok, Err}
+use Rattle.std.specs.Prelude.{◌≡◌, ◌⊎◌, ℕ, suc, ◌+◌, nat_lt, if◌then◌else◌, List, [], ◌∷◌, ◌++◌, length, Option, None, Some, Result, Ok, Err}
 use Rattle.outside.specs.Library.{Fails, Fetched, Files, Gives}
 use Rattle.wasm_ops.specs.declared.modules.Module.{Module}
 use Rattle.wasm_code.specs.Bodies.{beginning}
@@ -85,3 +85,34 @@ follow (Err why) rest = Err why
 abbrev pub loaded : Files → (number : ℕ) → List Route → Result (List Program) Unloaded
 loaded files number [] = Ok []
 loaded files number (r ∷ rs) = follow (from_answer number r (files r.«module»)) (loaded files (suc number) rs)
+
+-- The same in the words of the files alone.
+
+-- the file of the route's module is held, and comes to this program
+pub record HasProgram (files : Files) (r : Route) (program : Program) : Type 0 where
+  pub file : List ℕ
+  pub held : files r.«module» ≡ Some file
+  pub made : program_of r.pages file ≡ Ok program
+
+-- so it is of these routes, and these are their programs in order
+abbrev pub HavePrograms : Files → List Route → List Program → Type 0
+HavePrograms files [] [] = Unit {0}
+HavePrograms files (r ∷ routes) (program ∷ programs) = HasProgram files r program × HavePrograms files routes programs
+HavePrograms files [] (program ∷ programs) = ⊥
+HavePrograms files (r ∷ routes) [] = ⊥
+
+-- the file of the route with this number is none: it is not held; or it is held and refused so
+abbrev pub HasNone : Files → (number : ℕ) → Route → Unloaded → Type 0
+HasNone files number r (NotRead route) = (route ≡ number) × (files r.«module» ≡ None)
+HasNone files number r (IsUnfit route refusal place) =
+    (file : List ℕ) × (files r.«module» ≡ Some file) × (program_of r.pages file ≡ Err (record { number = refusal; place = place })) × (route ≡ number)
+
+-- of these routes, of which the first has this number, one has no program, and all before it have theirs
+pub record IsFirstWithNone (files : Files) (first : ℕ) (routes : List Route) (why : Unloaded) : Type 0 where
+  pub before : List Route
+  pub route : Route
+  pub after : List Route
+  pub split : routes ≡ before ++ route ∷ after
+  pub programs : List Program
+  pub served : HavePrograms files before programs
+  pub none : HasNone files (first + length before) route why

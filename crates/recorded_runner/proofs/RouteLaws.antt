@@ -1,9 +1,8 @@
 -- Routes, their programs, and what is known of each of many.
-use Rattle.std.proofs.Common.{◌≡◌, ℕ, zero, suc, ◌+◌, ◌<◌, ◌≤◌, List, [], ◌∷◌, ◌++◌, length, map, get_or, Option, Some, None, slice_get, option_map, unwrap_or, refl, sym, ap, subst, ◌∙◌, arith}
-use Rattle.std.specs.List.{AllByRecursion, flat_map}
+use Rattle.std.proofs.Common.{◌≡◌, ℕ, zero, suc, ◌<◌, ◌≤◌, List, [], ◌∷◌, length, map, get_or, Option, Some, None, slice_get, option_map, unwrap_or, refl, sym, ap, subst, ◌∙◌, arith}
+use Rattle.std.specs.List.{AllByRecursion}
 use Rattle.serve_config.specs.declared.tenants.Route.{Route}
 use Rattle.serve_config.specs.declared.tenants.Tenant.{Tenant}
-use Rattle.serve_config.specs.Ranges.{IsRouteInRange, IsTenantInRange}
 use Rattle.serve_config.specs.Routing.{all_routes}
 use Rattle.wasm_meaning.specs.Programs.{Program}
 use Rattle.wasm_meaning.specs.Requests.{Request}
@@ -17,13 +16,6 @@ pub below_some : {A : Type 0} (xs : List A) (k : ℕ) (x : A) → slice_get xs k
 below_some [] k x is = absurd cc
 below_some (y ∷ xs) zero x is = omega arith
 below_some (y ∷ xs) (suc k) x is = omega (arith, below_some xs k x is)
-
-pub all_at : {A : Type 0} (P : A → Type 0) (xs : List A) (k : ℕ) (x : A) → AllByRecursion P xs → slice_get xs k ≡ Some x → P x
-all_at P [] k x all is = absurd cc
-all_at P (y ∷ xs) zero x all is =
-    let same : y ≡ x = cc in
-    subst P same all.0
-all_at P (y ∷ xs) (suc k) x all is = all_at P xs k x all.1 is
 
 pub all_read : {A : Type 0} (P : A → Type 0) (xs : List A) (k : ℕ) (d : A) → AllByRecursion P xs → k < length xs → P (get_or xs k d)
 all_read P [] k d all below = absurd (omega (arith, below))
@@ -50,15 +42,7 @@ mapped_read f P [] k x all below is = absurd (omega (arith, below))
 mapped_read f P (y ∷ xs) zero x all below is = subst (λ z. P (f z)) (sym is) all.0
 mapped_read f P (y ∷ xs) (suc k) x all below is = mapped_read f P xs k x all.1 (omega (arith, below)) is
 
--- ---- the routes of all tenants
-
-all_of_both : (P : Route → Type 0) (xs ys : List Route) → AllByRecursion P xs → AllByRecursion P ys → AllByRecursion P (xs ++ ys)
-all_of_both P [] ys all others = others
-all_of_both P (x ∷ xs) ys all others = (all.0, all_of_both P xs ys all.1 others)
-
-pub routes_in_range : (tenants : List Tenant) → AllByRecursion IsTenantInRange tenants → AllByRecursion IsRouteInRange (all_routes tenants)
-routes_in_range [] all = tt
-routes_in_range (t ∷ ts) all = all_of_both IsRouteInRange t.routes (all_routes ts) all.0.routes (routes_in_range ts all.1)
+-- ---- the routes
 
 pub as_many : (routes : List Route) (programs : List Program) → AreProgramsOf routes programs → length programs ≡ length routes
 as_many [] [] are = refl

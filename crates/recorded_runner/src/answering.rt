@@ -11,7 +11,7 @@ ghost use Rattle.recorded_runner.specs.Seen.{decided_seen, fate_seen};
 ghost use Rattle.recorded_runner.specs.Serving.{AreProgramsOf, AreRoomy, IsServable, IsServed};
 ghost use Rattle.recorded_runner.specs.Summaries.{admitted_in, cost_in, turns_in};
 
-use crate::deciding::{Decided, Entry, Fate, route_at};
+use crate::deciding::{Decided, Entry, Fate};
 use crate::outcomes::outcome;
 use crate::running::{job_of, run_job};
 use http_front::{Outcome, Refusal, reply_text};
@@ -120,7 +120,7 @@ fn served<G: Gate>(
 {
     requests_keep_their_verdict();
     let route = entry.route;
-    let _route = route_at(config, route);
+    let _route = config.route(route);
     let job = match job_of(alloc, config, programs, place, entry) {
         Ok(job) => job,
         Err(fault) => {
@@ -159,6 +159,6 @@ fn reply_to_answer(
     requires known { route < length (all_routes config.now.tenants) }
     ensures { IfOk result (λ reply. reply.items ≡ reply_of (reported_verdict answer.now.verdict) (of_member (λ r. r.content_type) [] (all_routes config.now.tenants) route) head keep) }
 {
-    let content_type = route_at(config, route).content_type.as_str();
+    let content_type = config.route(route).content_type.as_str();
     reply_text(alloc, outcome(answer), content_type, head, keep)
 }

@@ -1,12 +1,11 @@
 //! What becomes of each item: refused, or admitted to a route.
-ghost use Rattle.std.specs.Prelude.{◌≡◌, ℕ, ◌<◌, [], length, map, IfOk, IfSome, Some, slice_get};
+ghost use Rattle.std.specs.Prelude.{◌≡◌, ℕ, ◌<◌, [], length, map, IfOk, IfSome, Some};
 ghost use Rattle.std.specs.List.{AllByRecursion};
 ghost use Rattle.admission.specs.Metering.{behind_all};
 ghost use Rattle.http_front.specs.Views.{heard_of};
 ghost use Rattle.recorded_arrivals.specs.Arrivals.{Arrived};
 ghost use Rattle.http_items.specs.Items.{IsWithin};
 ghost use Rattle.recorded_arrivals.specs.Seen.{arrival_seen};
-ghost use Rattle.serve_config.specs.Ranges.{IsRouteInRange};
 ghost use Rattle.serve_config.specs.Routing.{all_routes};
 ghost use Rattle.serve_config.specs.Tables.{AreTablesOf};
 ghost use Rattle.recorded_runner.specs.Fates.{asked_for, asked_of, decided_behind, decided_item, fate_by_route, fate_of_heard};
@@ -17,7 +16,7 @@ use admission::{Admission, Meter};
 use http_front::{Item, Method, Refusal};
 use recorded_arrivals::Arrival;
 use serve_config::laws::routes_are_numbered;
-use serve_config::{Config, Route, Routes};
+use serve_config::{Config, Routes};
 use std::alloc::{AllocError, Global};
 
 /// What becomes of an item.
@@ -119,7 +118,7 @@ fn admit(config: &Config, route: Option<u32>, meter: &mut Meter, moment: u32, bo
     let Some(number) = route else {
         return Fate::Refused(Refusal::NoRoute);
     };
-    let route = route_at(config, number);
+    let route = config.route(number);
     match meter.admit(moment as u64, route.estimate) {
         Admission::Entered => Fate::Admitted(Entry {
             route: number,
@@ -128,14 +127,4 @@ fn admit(config: &Config, route: Option<u32>, meter: &mut Meter, moment: u32, bo
         }),
         Admission::Spent { .. } => Fate::Refused(Refusal::AdmissionSpent),
     }
-}
-
-/// The route with this number.
-pub(crate) fn route_at(config: &Config, number: u32) -> &Route
-    requires { number < length (all_routes config.now.tenants) }
-    ensures is { slice_get (all_routes config.now.tenants) number ≡ Some result.now }
-    ensures in_range { IsRouteInRange result.now }
-{
-    let _tenants = config.tenants();
-    config.route(number)
 }

@@ -5,7 +5,7 @@ ghost use Rattle.serve_config.specs.Loaded.{programs_in};
 ghost use Rattle.serve_config.specs.Routing.{all_routes};
 ghost use Rattle.recorded_runner.specs.Replies.{request_at};
 
-use crate::deciding::{Entry, route_at};
+use crate::deciding::Entry;
 use memory_pool::Berth;
 use outside::Gate;
 use sandbox_states::{Admitted, Answer, Turn, run_turn, settle, start};
@@ -36,7 +36,7 @@ pub(crate) fn job_of(
         deadline,
         body,
     } = entry;
-    let budget = route_at(config, route).budget;
+    let budget = config.route(route).budget;
     let streams = match Streams::new(alloc, body) {
         Ok(streams) => streams,
         Err((body, fault)) => {

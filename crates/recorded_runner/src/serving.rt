@@ -11,7 +11,7 @@ ghost use Rattle.recorded_runner.specs.Serving.{AreProgramsOf, AreRoomy, IsServa
 ghost use Rattle.recorded_runner.specs.Tallies.{IsSmall, IsTallied, IsWritten};
 
 use crate::answering::{Replied, answer};
-use crate::deciding::{Decided, route_at};
+use crate::deciding::Decided;
 use crate::played::{Played, Summary};
 use crate::replies::{Replies, add_reply, no_replies, text_of};
 use memory_pool::Berth;
@@ -135,7 +135,7 @@ fn largest_pages(config: &Config) -> u32
 {
     let mut most = 1;
     for number in 0..config.route_count() {
-        most = most.max(route_at(config, number).pages);
+        most = most.max(config.route(number).pages);
     }
     most
 }

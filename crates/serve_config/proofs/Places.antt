@@ -1,6 +1,7 @@
 -- Places among the routes of all tenants, tenant by tenant.
-use Rattle.std.proofs.Common.{◌≡◌, ℕ, zero, suc, ◌+◌, ◌-◌, ◌<◌, ◌≤◌, List, [], ◌∷◌, ◌++◌, length, get_or, take, drop, Some, refl, ap, sym, ◌∙◌, arith, add-one, length-append}
+use Rattle.std.proofs.Common.{◌≡◌, ℕ, zero, suc, ◌+◌, ◌-◌, ◌<◌, ◌≤◌, List, [], ◌∷◌, ◌++◌, length, get_or, take, drop, Some, refl, ap, sym, subst, ◌∙◌, arith, add-one, length-append}
 use Rattle.std.specs.Prelude.{slice_get}
+use Rattle.std.specs.List.{AllByRecursion}
 use Rattle.std.proofs.Math.Seq.{drop-cons}
 use Rattle.std.proofs.lemmas.List.{take_more, take-append-drop}
 use Rattle.std.proofs.lemmas.List.Sums.{sum_by-cons, sum_by-append}
@@ -8,6 +9,7 @@ use Rattle.std.proofs.lemmas.Option.{slice_get-get_or}
 use Rattle.serve_config.specs.declared.tenants.Route.{Route}
 use Rattle.serve_config.specs.declared.tenants.Tenant.{Tenant}
 use Rattle.serve_config.specs.Overview.{route_count}
+use Rattle.serve_config.specs.Ranges.{IsRouteInRange, IsTenantInRange}
 use Rattle.serve_config.specs.Routing.{all_routes, routes_before}
 use Rattle.serve_config.proofs.Numbering.{get_front, get_behind}
 
@@ -70,3 +72,23 @@ counts_within ts i count t routes lt at same counted =
     let on = counts_on ts i count t routes lt at same counted in
     let all = before_all ts (i + 1) in
     omega (arith, on, all)
+
+-- ---- each is in its range
+
+all_of_both : (P : Route → Type 0) (xs ys : List Route) → AllByRecursion P xs → AllByRecursion P ys → AllByRecursion P (xs ++ ys)
+all_of_both P [] ys all others = others
+all_of_both P (x ∷ xs) ys all others = (all.0, all_of_both P xs ys all.1 others)
+
+routes_in_range : (ts : List Tenant) → AllByRecursion IsTenantInRange ts → AllByRecursion IsRouteInRange (all_routes ts)
+routes_in_range [] all = tt
+routes_in_range (t ∷ ts) all = all_of_both IsRouteInRange t.routes (all_routes ts) all.0.routes (routes_in_range ts all.1)
+
+all_at : (P : Route → Type 0) (rs : List Route) (place : ℕ) (r : Route) → AllByRecursion P rs → slice_get rs place ≡ Some r → P r
+all_at P [] place r all is = absurd cc
+all_at P (s ∷ rs) zero r all is =
+    let same : s ≡ r = cc in
+    subst P same all.0
+all_at P (s ∷ rs) (suc place) r all is = all_at P rs place r all.1 is
+
+pub route_in_range : (ts : List Tenant) (place : ℕ) (r : Route) → AllByRecursion IsTenantInRange ts → slice_get (all_routes ts) place ≡ Some r → IsRouteInRange r
+route_in_range ts place r all is = all_at IsRouteInRange (all_routes ts) place r (routes_in_range ts all) is

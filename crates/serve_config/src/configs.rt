@@ -1,7 +1,7 @@
 //! A configuration whose parts fit.
 ghost use Rattle.std.specs.Prelude.{◌≡◌, ◌≤◌, ◌<◌, None, Some, length, slice_get};
 ghost use Rattle.serve_config.specs.Routing.{all_routes};
-ghost use Rattle.serve_config.specs.Ranges.{IsInRange};
+ghost use Rattle.serve_config.specs.Ranges.{IsInRange, IsRouteInRange};
 ghost use Rattle.serve_config.specs.Overview.{first_fault, route_count};
 
 use crate::tenants::{Route, Tenant};
@@ -68,7 +68,8 @@ impl Config {
     /// The route with this number. Routes are numbered through all tenants, in order.
     pub fn route(&self, number: u32) -> &Route
         requires { number < length (all_routes self.now.tenants) }
-        ensures { slice_get (all_routes self.now.tenants) number ≡ Some result.now }
+        ensures is { slice_get (all_routes self.now.tenants) number ≡ Some result.now }
+        ensures in_range { IsRouteInRange result.now }
     {
         route_at(self.tenants(), number as usize)
     }

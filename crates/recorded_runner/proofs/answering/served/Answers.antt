@@ -31,6 +31,6 @@ returns-in-Ok-reply-clause-few g c =
     let answers = c.run_job-answer.ensures.answers.answers in
     let request = c.in-Ok.job.request in (
       c.turns-turns.ensures.most,
-      units_fit c.args.config.now.tenants (programs_in c.args.programs.now) c.args.entry.route c.args.entry.body.items request c.route_at-route.result.now c.units-units.result
-          c.in-Ok.ensures c.route_at-route.ensures.is c.route_at-route.ensures.in_range.budget (c.requests_keep_their_verdict.ensures.within request) (c.units-units.ensures ∙ answers.units_are),
+      units_fit c.args.config.now.tenants (programs_in c.args.programs.now) c.args.entry.route c.args.entry.body.items request c.route-route.result.now c.units-units.result
+          c.in-Ok.ensures c.route-route.ensures.is c.route-route.ensures.in_range.budget (c.requests_keep_their_verdict.ensures.within request) (c.units-units.ensures ∙ answers.units_are),
     )

@@ -11,7 +11,7 @@ use Rattle.serve_config.proofs.loading.load_programs.Goals as goal
 
 pub returns-in-Err-clause-loaded : goal.returns-in-Err-clause-loaded
 returns-in-Err-clause-loaded g c =
-    onward_fails g.L.Library.gave (all_routes c.args.config.now.tenants) c.args.lib.now (λ (one : Arc Program Global). arc_value one) (λ (shared : Vec (Arc Program Global) Global). programs_in shared.items) c.loop-number.number c.route-route.result.now c.loop-number.lib c.load.new.lib (programs_in c.loop-number.programs.items) c.in-Err.fault c.route-route.ensures c.loop-number.invariant.onward c.in-Err.ensures.loaded
+    onward_fails g.L.Library.gave (all_routes c.args.config.now.tenants) c.args.lib.now (λ (one : Arc Program Global). arc_value one) (λ (shared : Vec (Arc Program Global) Global). programs_in shared.items) c.loop-number.number c.route-route.result.now c.loop-number.lib c.load.new.lib (programs_in c.loop-number.programs.items) c.in-Err.fault c.route-route.ensures.is c.loop-number.invariant.onward c.in-Err.ensures.loaded
 
 pub returns-in-Err-clause-known : goal.returns-in-Err-clause-known
 returns-in-Err-clause-known g c =
@@ -19,7 +19,7 @@ returns-in-Err-clause-known g c =
 
 pub loop-number-preserved : goal.loop-number-preserved
 loop-number-preserved g c =
-    let next = onward_goes g.L.Library.gave (all_routes c.args.config.now.tenants) c.args.lib.now c.loop-number.number c.route-route.result.now c.loop-number.lib c.load.new.lib (programs_in c.loop-number.programs.items) (arc_value c.in-Ok.program) c.route-route.ensures c.loop-number.invariant.onward c.in-Ok.ensures.loaded in
+    let next = onward_goes g.L.Library.gave (all_routes c.args.config.now.tenants) c.args.lib.now c.loop-number.number c.route-route.result.now c.loop-number.lib c.load.new.lib (programs_in c.loop-number.programs.items) (arc_value c.in-Ok.program) c.route-route.ensures.is c.loop-number.invariant.onward c.in-Ok.ensures.loaded in
     record {
       onward = rw (c.in_ok-push.ensures.items, programs_more c.loop-number.programs.items c.in-Ok.program) next;
       same = c.load.ensures.same ∙ c.loop-number.invariant.same;

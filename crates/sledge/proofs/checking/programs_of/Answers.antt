@@ -23,7 +23,7 @@ returns-in_ok-not_read-in-Err-Read-clause-readies g c =
     (λ (f : LoadFault). IsLoaded {A = Vec (Arc Program Global) Global} {B = List Program} (λ shared. programs_in shared.items) (Err f)
     (LoadsAll g.L.Library.gave 0 (all_routes c.args.config.now.tenants) c.args.lib.now c.load_programs.new.lib))
     c.in-Err-Read.field-0-is c.in-Err-Read.ensures.loaded in
-    λ next. unread_comes g.L.Library.gave c.args.config.now next c.args.lib.now c.load_programs.new.lib c.in-Err-Read.route c.route.result.now _ came c.route.ensures
+    λ next. unread_comes g.L.Library.gave c.args.config.now next c.args.lib.now c.load_programs.new.lib c.in-Err-Read.route c.route.result.now _ came c.route.ensures.is
     (c.in_ok-not_read-in-Err-Read.ensures ∙ ap (λ name. due (not_read name)) c.as_str-name.ensures)
 
 pub returns-in_ok-ending-in-Err-Module-clause-readies : goal.returns-in_ok-ending-in-Err-Module-clause-readies

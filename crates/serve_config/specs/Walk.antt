@@ -1,17 +1,14 @@
 -- The table of a configuration's keys: each object's keys in order, each with its kind and its range.
-use Rattle.std.specs.Prelude.{ℕ, List, [], ◌∷◌, codes, Option, Some, None, Result, Ok, Err}
+use Rattle.std.specs.Prelude.{codes, Option, Some, None, Result, Ok, Err}
 use Rattle.serde_json.specs.Data.{Data}
 use Rattle.serve_config.specs.declared.refusals.Refusal.{Refusal}
 use Rattle.serve_config.specs.declared.tenants.Route.{Route}
 use Rattle.serve_config.specs.declared.tenants.Tenant.{Tenant}
 use Rattle.serve_config.specs.Steps.{go_on}
 use Rattle.serve_config.specs.Kinds.{number, text, name, policy, array_of, object_of, required, optional}
+use Rattle.serve_config.specs.Objects.{route_keys, tenant_keys, top_keys}
 use Rattle.serve_config.specs.Configuration.{Configuration}
 use Rattle.serve_config.specs.Overview.{first_fault}
-
-abbrev pub route_keys : List (List ℕ)
-route_keys =
-    codes "path" ∷ codes "module" ∷ codes "budget" ∷ codes "pages" ∷ codes "estimate" ∷ codes "deadline" ∷ codes "content_type" ∷ []
 
 unfoldable pub route_of : Data → Result Route Refusal
 route_of d =
@@ -25,9 +22,6 @@ route_of d =
     go_on (optional (codes "content_type") (codes "application/octet-stream") (text 128) d) (λ content_type.
     Ok (record { path = path; «module» = file; budget = budget; pages = pages; estimate = estimate; deadline = deadline; content_type = content_type })))))))))
 
-abbrev pub tenant_keys : List (List ℕ)
-tenant_keys = codes "name" ∷ codes "port" ∷ codes "capacity" ∷ codes "rate" ∷ codes "routes" ∷ []
-
 unfoldable pub tenant_of : Data → Result Tenant Refusal
 tenant_of d =
     go_on (object_of tenant_keys d) (λ known.
@@ -37,10 +31,6 @@ tenant_of d =
     go_on (required (codes "rate") (number 0 4294967295) d) (λ rate.
     go_on (required (codes "routes") (array_of route_of) d) (λ routes.
     Ok (record { name = called; port = port; capacity = capacity; rate = rate; routes = routes })))))))
-
-abbrev pub top_keys : List (List ℕ)
-top_keys =
-    codes "workers" ∷ codes "quantum" ∷ codes "policy" ∷ codes "berths" ∷ codes "clerks" ∷ codes "tenants" ∷ []
 
 -- the configuration, where nothing is wrong with it as a whole
 abbrev pub unless_faulty : Option Refusal → Configuration → Result Configuration Refusal

@@ -13,6 +13,7 @@ mod letters;
 mod load_faults;
 mod loading;
 mod modules;
+mod objects;
 mod overview;
 mod reading;
 mod refusals;

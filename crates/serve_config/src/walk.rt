@@ -1,21 +1,20 @@
 //! The walk through a configuration's keys: each object in the order of its table.
-ghost use Rattle.std.specs.Prelude.{◌≡◌, IfOk, string_bytes, length, map};
-ghost use Rattle.std.specs.List.{list_all, AllByRecursion};
-ghost use Rattle.std.specs.BTreeMap.{keys};
-ghost use Rattle.serde_json.specs.View.{view, items_view, members_view};
-ghost use Rattle.serve_config.specs.Kinds.{is_among, object_of, required, optional, text as text_due, name as name_due, each_of, array_of};
-ghost use Rattle.serve_config.specs.Walk.{route_keys, tenant_keys, top_keys, route_of as route_due, tenant_of as tenant_due, config_of as config_due};
-ghost use Rattle.serve_config.specs.Ranges.{IsBetween, IsRouteInRange, IsTenantInRange};
+ghost use Rattle.std.specs.Prelude.{◌≡◌, IfOk, length};
+ghost use Rattle.std.specs.List.{AllByRecursion};
+ghost use Rattle.serde_json.specs.View.{view, items_view};
+ghost use Rattle.serve_config.specs.Kinds.{each_of};
+ghost use Rattle.serve_config.specs.Walk.{route_of as route_due, tenant_of as tenant_due, config_of as config_due};
+ghost use Rattle.serve_config.specs.Ranges.{IsRouteInRange, IsTenantInRange};
 ghost use Rattle.serve_config.specs.Outcome.{Gives};
 
 use crate::configs::Config;
 use crate::faults::Stop;
 use crate::keys::{array, name, number, number_or, policy, text, text_or};
+use crate::objects::Object;
 use crate::overview::first_fault;
-use crate::refusals::Refusal;
 use crate::tenants::{Route, Tenant};
 use outside::Text;
-use serde_json::{Map, Value};
+use serde_json::Value;
 use std::alloc::{AllocError, Global};
 use wasm_ops::Items;
 
@@ -32,106 +31,13 @@ fn owned(alloc: Global, text: &str) -> Result<Text, AllocError>
     Ok(Text::new(String::from_str(alloc, text)?))
 }
 
-/// Whether a route has the key.
-fn is_route_key(key: &str) -> bool
-    ensures { result ≡ is_among route_keys key.now }
-{
-    match key {
-        "path" | "module" | "budget" | "pages" | "estimate" | "deadline" | "content_type" => true,
-        _ => false,
-    }
-}
-
-/// Whether a tenant has the key.
-fn is_tenant_key(key: &str) -> bool
-    ensures { result ≡ is_among tenant_keys key.now }
-{
-    match key {
-        "name" | "port" | "capacity" | "rate" | "routes" => true,
-        _ => false,
-    }
-}
-
-/// Whether the whole has the key.
-fn is_top_key(key: &str) -> bool
-    ensures { result ≡ is_among top_keys key.now }
-{
-    match key {
-        "workers" | "quantum" | "policy" | "berths" | "clerks" | "tenants" => true,
-        _ => false,
-    }
-}
-
-/// Whether all keys are a route's keys.
-fn has_route_keys(members: &Map<String, Value>) -> bool
-    ensures { result ≡ list_all (λ key. is_among route_keys (string_bytes key)) (keys members.now) }
-{
-    members.keys().all(|key| is_route_key(key.as_str()))
-}
-
-/// That a value is an object with a route's keys alone.
-#[tactic(auto, using(crate::proofs::Members::has_only_is))]
-fn route_object(value: &Value) -> Result<(), Refusal>
-    ensures { result ≡ object_of route_keys (view value.now) }
-{
-    let Some(members) = value.as_object() else {
-        return Err(Refusal::WrongKind);
-    };
-    if !has_route_keys(members) {
-        return Err(Refusal::UnknownKey);
-    }
-    Ok(())
-}
-
-/// Whether all keys are a tenant's keys.
-fn has_tenant_keys(members: &Map<String, Value>) -> bool
-    ensures { result ≡ list_all (λ key. is_among tenant_keys (string_bytes key)) (keys members.now) }
-{
-    members.keys().all(|key| is_tenant_key(key.as_str()))
-}
-
-/// That a value is an object with a tenant's keys alone.
-#[tactic(auto, using(crate::proofs::Members::has_only_is))]
-fn tenant_object(value: &Value) -> Result<(), Refusal>
-    ensures { result ≡ object_of tenant_keys (view value.now) }
-{
-    let Some(members) = value.as_object() else {
-        return Err(Refusal::WrongKind);
-    };
-    if !has_tenant_keys(members) {
-        return Err(Refusal::UnknownKey);
-    }
-    Ok(())
-}
-
-/// Whether all keys are the keys of the whole.
-fn has_top_keys(members: &Map<String, Value>) -> bool
-    ensures { result ≡ list_all (λ key. is_among top_keys (string_bytes key)) (keys members.now) }
-{
-    members.keys().all(|key| is_top_key(key.as_str()))
-}
-
-/// That a value is an object with the keys of the whole alone.
-#[tactic(auto, using(crate::proofs::Members::has_only_is))]
-fn top_object(value: &Value) -> Result<(), Refusal>
-    ensures { result ≡ object_of top_keys (view value.now) }
-{
-    let Some(members) = value.as_object() else {
-        return Err(Refusal::WrongKind);
-    };
-    if !has_top_keys(members) {
-        return Err(Refusal::UnknownKey);
-    }
-    Ok(())
-}
-
 /// The route that a value is.
 #[tactic(auto, unfolding(crate::specs::Walk::route_of))]
 fn route_of(alloc: Global, value: &Value) -> Result<Route, Stop>
     ensures exact { Gives (λ route. route) result (route_due (view value.now)) }
     ensures in_range { IfOk result IsRouteInRange }
 {
-    route_object(value)?;
+    Object::Route.accepts(value)?;
     let path = text(value, "path", 256)?;
     let module = text(value, "module", 256)?;
     let budget = number(value, "budget", 0, 1 << 40)?;
@@ -169,7 +75,7 @@ fn tenant_of(alloc: Global, value: &Value) -> Result<Tenant, Stop>
     ensures exact { Gives (λ tenant. tenant) result (tenant_due (view value.now)) }
     ensures in_range { IfOk result IsTenantInRange }
 {
-    tenant_object(value)?;
+    Object::Tenant.accepts(value)?;
     let called = name(value, "name")?;
     let port = number(value, "port", 1, 65_535)?;
     let capacity = number(value, "capacity", 0, 1 << 40)?;
@@ -202,7 +108,7 @@ fn tenants_of(alloc: Global, values: &[Value]) -> Result<Items<Tenant>, Stop>
 pub(crate) fn config_of(alloc: Global, value: &Value) -> Result<Config, Stop>
     ensures { Gives (λ config. config) result (config_due (view value.now)) }
 {
-    top_object(value)?;
+    Object::Top.accepts(value)?;
     let workers = number(value, "workers", 1, 64)?;
     let quantum = number(value, "quantum", 1, 0xFFFF_FFFF)?;
     let policy = policy(value, "policy")?;

@@ -1,57 +1,27 @@
 //! The programs of the load.
 ghost use Rattle.std.specs.Prelude.{◌≡◌, [], Ok, IfOk, IsOk, OnOk};
 ghost use Rattle.std.specs.Arc.{arc_value};
-ghost use Rattle.wasm_ops.specs.WellFormed.{IsWellFormed};
-ghost use Rattle.wasm_meaning.specs.Programs.{link as link_due};
-ghost use Rattle.wasm_meaning.specs.Validity.{module_walk};
 ghost use Rattle.serve_config.specs.Routing.{all_routes};
-ghost use Rattle.serve_config.specs.Loading.{linked, validated, program_of as program_due, loaded};
+ghost use Rattle.serve_config.specs.Loading.{program_of as program_due, loaded};
 ghost use Rattle.serve_config.specs.Loaded.{programs_in};
 ghost use Rattle.generated_load.specs.Configuration.{soak_configuration};
 ghost use Rattle.generated_load.specs.Modules.{nil_module, trap_module, loop_module, echo_module, soak_files};
 
 use crate::modules::{ECHO, LOOP, NIL, TRAP};
+use serve_config::Unmade;
 use std::alloc::{AllocError, Global};
 use std::sync::Arc;
-use wasm_instance::{LinkFault, Program, link};
-use wasm_ops::Module;
-use wasm_reader::{ReadFault, read_module};
-use wasm_validate::{Valid, ValidFault, validate};
+use wasm_instance::Program;
 
 /// The program of bytes that are known to be one's.
 fn program_of(alloc: Global, bytes: &[u8], pages: u32) -> Result<Arc<Program>, AllocError>
     requires { IsOk (program_due pages bytes.now) }
     ensures { IfOk result (λ shared. program_due pages bytes.now ≡ Ok (arc_value shared)) }
 {
-    match read_module(alloc, bytes) {
-        Ok(parts) => of_module(alloc, parts, pages),
-        Err(ReadFault::Bytes(_)) => unreachable!(),
-        Err(ReadFault::NoMemory) => Err(AllocError),
-    }
-}
-
-/// The program of a module that was read.
-fn of_module(alloc: Global, parts: Module, pages: u32) -> Result<Arc<Program>, AllocError>
-    requires formed { IsWellFormed parts }
-    requires fit { IsOk (validated pages parts (module_walk parts)) }
-    ensures { IfOk result (λ shared. validated pages parts (module_walk parts) ≡ Ok (arc_value shared)) }
-{
-    match validate(alloc, parts) {
-        Ok(valid) => of_valid(alloc, valid, pages),
-        Err(ValidFault::Rule(_)) => unreachable!(),
-        Err(ValidFault::NoMemory) => Err(AllocError),
-    }
-}
-
-/// The program of a valid module.
-fn of_valid(alloc: Global, valid: Valid, pages: u32) -> Result<Arc<Program>, AllocError>
-    requires { IsOk (linked (link_due valid pages)) }
-    ensures { IfOk result (λ shared. linked (link_due valid pages) ≡ Ok (arc_value shared)) }
-{
-    match link(alloc, valid, pages) {
+    match serve_config::program_of(alloc, bytes, pages) {
         Ok(program) => Ok(Arc::new(alloc, program)?),
-        Err(LinkFault::Refused(_)) => unreachable!(),
-        Err(LinkFault::NoMemory) => Err(AllocError),
+        Err(Unmade::Unfit { .. }) => unreachable!(),
+        Err(Unmade::NoMemory) => Err(AllocError),
     }
 }
 

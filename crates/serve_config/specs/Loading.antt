@@ -1,6 +1,8 @@
 -- The programs of routes: for each in order its file is read, and then the module that the bytes spell, which is validated and linked.
 use Rattle.std.specs.Prelude.{◌≡◌, ◌⊎◌, ℕ, suc, ◌+◌, nat_lt, if◌then◌else◌, List, [], ◌∷◌, ◌++◌, length, Option, None, Some, Result, Ok, Err}
 use Rattle.outside.specs.Library.{Fails, Fetched, Files, Gives}
+use Rattle.wasm_ops.specs.Refusals.{number_of}
+use Rattle.wasm_ops.specs.declared.faults.Refusal.TheVariants.{TooLarge}
 use Rattle.wasm_ops.specs.declared.modules.Module.{Module}
 use Rattle.wasm_code.specs.Bodies.{beginning}
 use Rattle.wasm_code.specs.Reading.{Read}
@@ -34,7 +36,7 @@ module_read pages (Err fault) = Err (record { number = fault.number; place = fau
 -- the program of a file that has so many pages, or its first refusal
 unfoldable pub program_of : (pages : ℕ) → List ℕ → Result Program Unfit
 program_of pages bytes =
-    if nat_lt most_bytes (length bytes) then Err (record { number = 21; place = 0 }) else module_read pages (whole_module.read (beginning bytes))
+    if nat_lt most_bytes (length bytes) then Err (record { number = number_of TooLarge; place = 0 }) else module_read pages (whole_module.read (beginning bytes))
 
 -- Many files.
 

@@ -47,9 +47,15 @@ impl<T: Drop> From<AllocFailed<T>> for LoadFault {
 
 /// Why a file's bytes are made into no program.
 #[derive(Clone, Copy, Debug, PartialEq, Eq)]
-pub(crate) enum Unmade {
-    /// They are refused by this number, at this place or item.
-    Unfit { number: u8, place: u32 },
+pub enum Unmade {
+    /// They are no module (1 to 24), it breaks a rule (30 to 43), or it is not linked (50 to 56).
+    Unfit {
+        /// The number of the first refusal.
+        number: u8,
+
+        /// Its place in the file, or the index of the item that breaks the rule.
+        place: u32,
+    },
 
     /// No memory was left.
     NoMemory,

@@ -1,5 +1,5 @@
 //! One program: from a file's bytes to a module, which is validated and linked.
-ghost use Rattle.std.specs.Prelude.{◌≡◌};
+ghost use Rattle.std.specs.Prelude.{◌≡◌, IfOk};
 ghost use Rattle.wasm_ops.specs.WellFormed.{IsWellFormed};
 ghost use Rattle.wasm_meaning.specs.Programs.{link as link_due};
 ghost use Rattle.wasm_meaning.specs.Validity.{module_walk};
@@ -13,9 +13,13 @@ use wasm_ops::Module;
 use wasm_reader::{ReadFault, read_module};
 use wasm_validate::{Valid, ValidFault, validate};
 
-/// The program of a file's bytes with so many pages.
-pub(crate) fn program_of(alloc: Global, bytes: &[u8], pages: u32) -> Result<Program, Unmade>
-    ensures { IsMade result (program_due pages bytes.now) }
+/// The program of a file's bytes with so many pages of 64 KiB: the module that they spell, which is valid and linked with these pages.
+///
+/// `Unfit` tells the first refusal: the bytes are more than 4 MiB (number 21) or spell no module, a rule of validity is broken, or the module is not linked (WebAssembly Core 1.0, sections 5, 3 and 4.5).
+/// A file that may be too long is read with one byte more than 4 MiB, which does for all of it.
+pub fn program_of(alloc: Global, bytes: &[u8], pages: u32) -> Result<Program, Unmade>
+    ensures made { IsMade result (program_due pages bytes.now) }
+    ensures pages { IfOk result (λ program. program.pages ≡ pages) }
 {
     match read_module(alloc, bytes) {
         Ok(parts) => of_module(alloc, parts, pages),

@@ -1,5 +1,5 @@
 -- The reads of `load_programs` are those of the plan of the modules.
-use Rattle.std.proofs.Common.{◌≡◌, ◌⊎◌, inl, inr, ℕ, zero, suc, ◌+◌, Bool, true, false, cond, nat_lt, List, [], ◌∷◌, length, Option, None, Some, Result, Ok, Err, refl, sym, ap, subst, ◌∙◌, arith}
+use Rattle.std.proofs.Common.{◌≡◌, ◌⊎◌, inl, inr, ℕ, zero, suc, ◌+◌, List, [], ◌∷◌, Option, None, Some, Result, Ok, Err, refl, sym, ap, subst, ◌∙◌, arith}
 use Rattle.std.specs.Prelude.{slice_get}
 use Rattle.outside.specs.Library.{Fails, Fetched, Gives}
 use Rattle.serve_config.specs.Configuration.{Configuration}
@@ -9,24 +9,17 @@ use Rattle.serve_config.specs.Refusals.{number_of}
 use Rattle.serve_config.specs.Routing.{all_routes}
 use Rattle.serve_config.specs.declared.faults.ConfigFault.{ConfigFault}
 use Rattle.serve_config.specs.declared.faults.ConfigFault.TheVariants.{Refused as Numbered}
-use Rattle.wasm_ops.specs.declared.modules.Module.{Module}
-use Rattle.wasm_code.specs.Bodies.{beginning}
-use Rattle.wasm_code.specs.Reading.{Read}
-use Rattle.wasm_reader.specs.Modules.{most_bytes, whole_module}
-use Rattle.wasm_meaning.specs.Programs.{Program, link}
-use Rattle.wasm_meaning.specs.Validity.{module_walk}
-use Rattle.wasm_meaning.specs.ValidityChecks.{Check}
-use Rattle.wasm_meaning.specs.declared.links.Unlinked.{Unlinked}
+use Rattle.wasm_reader.specs.Modules.{most_bytes}
+use Rattle.wasm_meaning.specs.Programs.{Program}
 use Rattle.serve_config.specs.Loading.{Unfit, Unloaded, NotRead, IsUnfit, Loads, LoadsAll, Follows, fit, from_answer, with_first, program_of}
-use Rattle.serve_config.specs.Loading as loading
 use Rattle.recorded_runner.specs.Serving.{AreProgramsOf}
-use Rattle.wasm_instance.proofs.Outcomes.{linked_is}
+use Rattle.serve_config.proofs.Programs.{made_pages}
 use Rattle.serve_config.specs.declared.tenants.Route.{Route}
 use Rattle.sledge.proofs.Checks.{config_checked}
 use Rattle.sledge.proofs.Walking.{Giving, comes_end, comes_given}
 use Rattle.sledge.specs.CheckPlans.{Onward, check_config, check_route, config_limit, config_plan, module_name, modules_plan, routes_plan}
 use Rattle.sledge.specs.Endings.{Due, Ended, config_fault, due, module_fault, not_read}
-use Rattle.sledge.specs.ModuleChecks.{check_module, linked, module_step, validated}
+use Rattle.sledge.specs.ModuleChecks.{module_step}
 use Rattle.sledge.specs.Readying.{Readies}
 use Rattle.sledge.specs.declared.checking.Configured.{Configured}
 use Rattle.sledge.specs.declared.checking.Unready.{Unready}
@@ -35,34 +28,8 @@ use Rattle.sledge.specs.Plans.{Comes, Ends, Goes, Leads, Plan, Reads, Step, Stop
 
 -- What is made of one file is what its check makes of it.
 
-abbrev pub route_step : (number : ℕ) → Result Program Unfit → Step Program
-route_step number (Ok program) = Goes program
-route_step number (Err why) = Stops (module_fault number why.number why.place)
-
-linked_same : (number : ℕ) (r : Result Program Unlinked) → linked number r ≡ route_step number (loading.linked r)
-linked_same number (Ok program) = refl
-linked_same number (Err why) = refl
-
-validated_same : (number pages : ℕ) (check : Check) (parts : Module) → validated number pages check parts ≡ route_step number (loading.validated pages parts check)
-validated_same number pages (Ok passed) parts = linked_same number (link parts pages)
-validated_same number pages (Err broken) parts = refl
-
-read_same : (number pages : ℕ) (read : Read Module) → module_step number pages read ≡ route_step number (loading.module_read pages read)
-read_same number pages (Ok read) = validated_same number pages (module_walk read.0) read.0
-read_same number pages (Err fault) = refl
-
-long_same : (number : ℕ) (b : Bool) (step : Step Program) (made : Result Program Unfit) → step ≡ route_step number made
-    → cond b (Stops (module_fault number 21 0)) step ≡ route_step number (cond b (Err (record { number = 21; place = 0 })) made)
-long_same number true step made same = refl
-long_same number false step made same = same
-
-pub check_is : (number pages : ℕ) (bytes : List ℕ) → check_module number pages bytes ≡ route_step number (program_of pages bytes)
-unfolding check_module program_of
-check_is number pages bytes =
-    long_same number (nat_lt most_bytes (length bytes)) _ _ (read_same number pages (whole_module.read (beginning bytes)))
-
 goes : (number : ℕ) (r : Route) (bytes : List ℕ) (made : Result Program Unfit) (program : Program) → program_of r.pages bytes ≡ made → fit number made ≡ Ok program → check_route number r bytes ≡ Goes program
-goes number r bytes (Ok other) program is fits = let same : other ≡ program = cc in check_is number r.pages bytes ∙ ap (route_step number) is ∙ ap (λ (p : Program). Goes p) same
+goes number r bytes (Ok other) program is fits = let same : other ≡ program = cc in ap (module_step number) is ∙ ap (λ (p : Program). Goes p) same
 goes number r bytes (Err why) program is fits = cc
 
 stops : (number : ℕ) (r : Route) (bytes : List ℕ) (made : Result Program Unfit) (route refusal place : ℕ) → program_of r.pages bytes ≡ made → fit number made ≡ Err (IsUnfit route refusal place)
@@ -72,38 +39,13 @@ stops number r bytes (Err why) route refusal place is fits =
     let a : number ≡ route = cc in
     let b : why.number ≡ refusal = cc in
     let c : why.place ≡ place = cc in
-    check_is number r.pages bytes ∙ ap (route_step number) is ∙ (rw (a, b, c) refl)
+    ap (module_step number) is ∙ (rw (a, b, c) refl)
 
 never_unread : (number : ℕ) (made : Result Program Unfit) (route : ℕ) → fit number made ≡ Err (NotRead route) → ⊥
 never_unread number (Ok other) route e = cc
 never_unread number (Err why) route e = cc
 
 -- A program that comes of a file has the pages that it was given.
-
-linked_pages : (parts : Module) (pages : ℕ) (program : Program) (found : Result Program Unlinked) → link parts pages ≡ found → loading.linked found ≡ Ok program → program.pages ≡ pages
-linked_pages parts pages program (Ok other) is made =
-    let same : program ≡ other = cc in
-    ap (λ (p : Program). p.pages) (same ∙ (linked_is parts pages other is).1)
-linked_pages parts pages program (Err why) is made = cc
-
-validated_pages : (pages : ℕ) (check : Check) (parts : Module) (program : Program) → loading.validated pages parts check ≡ Ok program → program.pages ≡ pages
-validated_pages pages (Ok passed) parts program made = linked_pages parts pages program (link parts pages) refl made
-validated_pages pages (Err broken) parts program made = cc
-
-read_pages : (pages : ℕ) (read : Read Module) (program : Program) → loading.module_read pages read ≡ Ok program → program.pages ≡ pages
-read_pages pages (Ok read) program made = validated_pages pages (module_walk read.0) read.0 program made
-read_pages pages (Err fault) program made = cc
-
-limited_pages : (pages : ℕ) (b : Bool) (made : Result Program Unfit) (program : Program) → ((p : Program) → made ≡ Ok p → p.pages ≡ pages) → cond b (Err (record { number = 21; place = 0 })) made ≡ Ok program → program.pages ≡ pages
-limited_pages pages true made program fits is = cc
-limited_pages pages false made program fits is = fits program is
-
-made_pages : (pages : ℕ) (bytes : List ℕ) (program : Program) → program_of pages bytes ≡ Ok program → program.pages ≡ pages
-unfolding program_of
-made_pages pages bytes program is =
-    limited_pages pages (nat_lt most_bytes (length bytes)) (loading.module_read pages (whole_module.read (beginning bytes))) program
-    (λ p made. read_pages pages (whole_module.read (beginning bytes)) p made) is
-
 fit_pages : (number : ℕ) (r : Route) (bytes : List ℕ) (made : Result Program Unfit) (program : Program) → program_of r.pages bytes ≡ made → fit number made ≡ Ok program → program.pages ≡ r.pages
 fit_pages number r bytes (Ok other) program is fits = let same : other ≡ program = cc in made_pages r.pages bytes program (is ∙ ap (λ (p : Program). Ok p) same)
 fit_pages number r bytes (Err why) program is fits = cc

@@ -6,9 +6,8 @@ use Rattle.std.proofs.lemmas.List.{length-take, take-append-drop}
 use Rattle.std.proofs.Math.ListN.{drop_of_length-le}
 use Rattle.wasm_ops.specs.declared.faults.Fault.{Fault}
 use Rattle.wasm_ops.specs.declared.modules.Module.{Module}
-use Rattle.wasm_code.specs.Bodies.{beginning}
-use Rattle.wasm_reader.proofs.ModuleLaws.{either, whole_module_decided}
-use Rattle.wasm_reader.specs.Modules.{RefusesModule, SpellsModule, most_bytes, whole_module}
+use Rattle.wasm_reader.proofs.ModuleLaws.{either}
+use Rattle.wasm_reader.specs.Modules.{RefusesModule, SpellsModule, most_bytes}
 use Rattle.wasm_instance.proofs.Outcomes.{unlinked_is}
 use Rattle.wasm_meaning.specs.Validity.{module_walk}
 use Rattle.wasm_meaning.specs.LinkRules.{link_number}
@@ -16,7 +15,9 @@ use Rattle.wasm_meaning.specs.Programs.{Program, link, linked_or}
 use Rattle.wasm_meaning.specs.ValidityChecks.{Check}
 use Rattle.wasm_meaning.specs.declared.links.Unlinked.{Unlinked}
 use Rattle.wasm_meaning.specs.declared.violations.Broken.{Broken}
+use Rattle.serve_config.proofs.Programs.{made_of_refused, made_of_spelt, program_front}
 use Rattle.serve_config.specs.Configuration.{Configuration}
+use Rattle.serve_config.specs.Loading.{Unfit, linked, program_of, validated}
 use Rattle.serve_config.specs.Reading.{configuration, json_of}
 use Rattle.serve_config.specs.Routing.{all_routes}
 use Rattle.serve_config.specs.Steps.{go_on as go_on_config}
@@ -30,7 +31,7 @@ use Rattle.sledge.specs.CheckPlans.{Onward, check_config, check_route, config_li
 use Rattle.sledge.specs.CommandLine.{Asked, AsksHelp, AsksVersion, AsksInvoke, AsksCheck, AsksReplay, InvokeWords, AsksSoak, SoakWords}
 use Rattle.sledge.specs.Commands.{body_limit, body_plan, check_body, check_invoked, plan_of}
 use Rattle.sledge.specs.Endings.{Ended, module_fault, recording_fault}
-use Rattle.sledge.specs.ModuleChecks.{check_module, linked, module_step, validated}
+use Rattle.sledge.specs.ModuleChecks.{check_module, module_step}
 use Rattle.recording_format.specs.Spelling.{magic}
 use Rattle.recording_format.specs.Standing.{beginning as recording_beginning}
 use Rattle.recording_format.specs.declared.records.Record.{Record}
@@ -92,34 +93,26 @@ limited_config whole false e =
 
 -- The check of a module.
 
--- bytes that spell a module are checked by its rules, and then linked
-pub check_spelt : (route pages : ℕ) (bytes : List ℕ) (parts : Module) → SpellsModule bytes parts → check_module route pages bytes ≡ validated route pages (module_walk parts) parts
-unfolding check_module
-check_spelt route pages bytes parts s =
-    ap (λ b. cond b (Stops (module_fault route 21 0)) (module_step route pages (whole_module.read (beginning bytes)))) (is_short most_bytes (length bytes) s.small)
-    ∙ ap (module_step route pages) ((whole_module_decided.decides (beginning bytes)).only parts s.after s.spelt)
+-- bytes that spell a module come to what its rules and then its links say
+check_spelt : (route pages : ℕ) (bytes : List ℕ) (parts : Module) → SpellsModule bytes parts → check_module route pages bytes ≡ module_step route (validated pages parts (module_walk parts))
+check_spelt route pages bytes parts s = ap (module_step route) (made_of_spelt pages bytes parts s)
 
 -- bytes that are refused are refused so
 pub check_refused : (route pages : ℕ) (bytes : List ℕ) (fault : Fault) → RefusesModule bytes fault → check_module route pages bytes ≡ Stops (module_fault route fault.number fault.place)
-unfolding check_module
-check_refused route pages bytes fault (inl many) =
-    ap (λ b. cond b (Stops (module_fault route 21 0)) (module_step route pages (whole_module.read (beginning bytes)))) (is_long most_bytes (length bytes) many.large)
-    ∙ ap (λ (f : Fault). Stops (module_fault route f.number f.place)) (sym many.told)
-check_refused route pages bytes fault (inr item) =
-    ap (λ b. cond b (Stops (module_fault route 21 0)) (module_step route pages (whole_module.read (beginning bytes)))) (is_short most_bytes (length bytes) item.small)
-    ∙ ap (module_step route pages) ((whole_module_decided.decides (beginning bytes)).only_refused fault item.refused)
+check_refused route pages bytes fault refuses = ap (module_step route) (made_of_refused pages bytes fault refuses)
 
 pub check_accepted : (route pages : ℕ) (bytes : List ℕ) (program : Program) → IsAccepted pages bytes program → check_module route pages bytes ≡ Goes program
 check_accepted route pages bytes program b =
-    check_spelt route pages bytes b.parts b.spelt ∙ ap (λ (c : Check). validated route pages c b.parts) b.valid ∙ ap (λ (r : Result Program Unlinked). linked route r) b.links
+    check_spelt route pages bytes b.parts b.spelt ∙ ap (λ (c : Check). module_step route (validated pages b.parts c)) b.valid
+    ∙ ap (λ (r : Result Program Unlinked). module_step route (linked r)) b.links
 
 pub check_invalid : (route pages : ℕ) (bytes : List ℕ) (broken : Broken) → IsInvalid bytes broken → check_module route pages bytes ≡ Stops (module_fault route broken.number broken.item)
-check_invalid route pages bytes broken n = check_spelt route pages bytes n.parts n.spelt ∙ ap (λ (c : Check). validated route pages c n.parts) n.broken_first
+check_invalid route pages bytes broken n = check_spelt route pages bytes n.parts n.spelt ∙ ap (λ (c : Check). module_step route (validated pages n.parts c)) n.broken_first
 
 pub check_unlinked : (route pages : ℕ) (bytes : List ℕ) (why : Unlinked) → IsUnlinked pages bytes why → check_module route pages bytes ≡ Stops (module_fault route (link_number why.rule) why.item)
 check_unlinked route pages bytes why n =
-    check_spelt route pages bytes n.parts n.spelt ∙ ap (λ (c : Check). validated route pages c n.parts) n.valid
-    ∙ ap (λ (o : Option Unlinked). linked route (linked_or (record { linked = n.parts; pages = pages }) o)) n.refused_first
+    check_spelt route pages bytes n.parts n.spelt ∙ ap (λ (c : Check). module_step route (validated pages n.parts c)) n.valid
+    ∙ ap (λ (o : Option Unlinked). module_step route (linked (linked_or (record { linked = n.parts; pages = pages }) o))) n.refused_first
 
 -- each file is the program of a route, or is refused as its module
 pub data Judged (route pages : ℕ) (bytes : List ℕ) : Type 0 where
@@ -143,8 +136,7 @@ judged route pages bytes = elim (either bytes) [
     by_rules parts s (Err broken) v = IsNone broken.number broken.item (check_invalid route pages bytes broken (record { parts = parts; spelt = s; broken_first = v }))
 
 module_front : (route pages : ℕ) (whole : List ℕ) → check_module route pages (take (most_bytes + 1) whole) ≡ check_module route pages whole
-unfolding check_module
-module_front route pages whole = limited_front most_bytes (module_fault route 21 0) (λ all. module_step route pages (whole_module.read (beginning all))) whole
+module_front route pages whole = ap (module_step route) (program_front pages whole)
 
 -- The check of a body.
 
@@ -175,22 +167,12 @@ limited_well : {A : Type 0} (b : Bool) (too_long : Ended) (step : Step A) → Is
 limited_well true too_long step long well = long
 limited_well false too_long step long well = well
 
-linked_well : (route : ℕ) (found : Result Program Unlinked) → StopsWell (linked route found)
-linked_well route (Ok program) = tt
-linked_well route (Err why) = tt
-
-validated_well : (route pages : ℕ) (check : Check) (parts : Module) → StopsWell (validated route pages check parts)
-validated_well route pages (Ok passed) parts = linked_well route (link parts pages)
-validated_well route pages (Err broken) parts = tt
-
 module_well : (route pages : ℕ) (bytes : List ℕ) → StopsWell (check_module route pages bytes)
-unfolding check_module
-module_well route pages bytes =
-    limited_well (nat_lt most_bytes (length bytes)) (module_fault route 21 0) (module_step route pages (whole_module.read (beginning bytes))) tt (at (whole_module.read (beginning bytes)))
+module_well route pages bytes = at (program_of pages bytes)
   where
-    at : (read : _) → StopsWell (module_step route pages read)
-    at (Ok read) = validated_well route pages (module_walk read.0) read.0
-    at (Err fault) = tt
+    at : (made : Result Program Unfit) → StopsWell (module_step route made)
+    at (Ok program) = tt
+    at (Err why) = tt
 
 -- a configuration and its modules
 

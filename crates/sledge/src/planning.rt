@@ -1,14 +1,10 @@
 //! From the words to the ending: reads each file in its order, checks it, and runs.
 
 ghost use Rattle.std.specs.Prelude.{◌≡◌, ◌^◌, ◌≤◌, map, IfOk, string_bytes};
-ghost use Rattle.wasm_meaning.specs.Programs.{link as link_due};
-ghost use Rattle.wasm_meaning.specs.Validity.{module_walk};
-ghost use Rattle.wasm_ops.specs.WellFormed.{IsWellFormed};
 ghost use Rattle.sledge.specs.Accepted.{given_pages};
 ghost use Rattle.sledge.specs.CommandLine.{invoke_view};
 ghost use Rattle.sledge.specs.Commands.{body_end, body_plan, check_body, check_invoked, invoke_plan, plan_for};
 ghost use Rattle.sledge.specs.Endings.{due};
-ghost use Rattle.sledge.specs.ModuleChecks.{linked, validated};
 ghost use Rattle.sledge.specs.Plans.{Comes, go_on};
 
 use crate::checking::check;
@@ -19,12 +15,11 @@ use crate::replaying::replay_files;
 use crate::soaking::soak;
 use crate::texts::{HELP, VERSION};
 use outside::{Fetch, Gate, Library};
+use serve_config::{Unmade, program_of};
 use std::alloc::{AllocError, Global};
 use std::thread::Threads;
-use wasm_instance::{LinkFault, Program, link};
-use wasm_ops::Module;
-use wasm_reader::{MOST_BYTES, ReadFault, read_module};
-use wasm_validate::{Valid, ValidFault, validate};
+use wasm_instance::Program;
+use wasm_reader::MOST_BYTES;
 
 /// The most bytes of a request body.
 const BODY_LIMIT: u64 = 1 << 20;
@@ -94,55 +89,10 @@ fn from_bytes<L: Library>(
     ensures same { (L.state lib.new).held ≡ (L.state lib.old).held }
     ensures later { (L.state lib.old).faults ≤ (L.state lib.new).faults }
 {
-    match read_module(alloc, bytes) {
-        Ok(parts) => from_parts(alloc, parts, invoke, lib),
-        Err(ReadFault::Bytes(fault)) => Ending::module_fault(alloc, 0, fault.number, fault.place),
-        Err(ReadFault::NoMemory) => Err(AllocError),
-    }
-}
-
-/// The ending of an `invoke` once its module is read.
-fn from_parts<L: Library>(
-    alloc: Global,
-    parts: Module,
-    invoke: Invoke<'_>,
-    lib: &mut L,
-) -> Result<Ending, AllocError>
-    requires budget { invoke.budget ≤ 2 ^ 40 }
-    requires formed { IsWellFormed parts }
-    ensures comes { IfOk result (Comes L.gave (go_on (body_plan (invoke_view invoke.entry))
-        (validated 0 given_pages (module_walk parts) parts)) lib.old lib.new) }
-    ensures same { (L.state lib.new).held ≡ (L.state lib.old).held }
-    ensures later { (L.state lib.old).faults ≤ (L.state lib.new).faults }
-{
-    match validate(alloc, parts) {
-        Ok(valid) => from_valid(alloc, valid, invoke, lib),
-        Err(ValidFault::Rule(broken)) => {
-            Ending::module_fault(alloc, 0, broken.number, broken.item)
-        }
-        Err(ValidFault::NoMemory) => Err(AllocError),
-    }
-}
-
-/// The ending of an `invoke` once its module is known to be valid.
-fn from_valid<L: Library>(
-    alloc: Global,
-    valid: Valid,
-    invoke: Invoke<'_>,
-    lib: &mut L,
-) -> Result<Ending, AllocError>
-    requires budget { invoke.budget ≤ 2 ^ 40 }
-    ensures comes { IfOk result (Comes L.gave (go_on (body_plan (invoke_view invoke.entry))
-        (linked 0 (link_due valid given_pages))) lib.old lib.new) }
-    ensures same { (L.state lib.new).held ≡ (L.state lib.old).held }
-    ensures later { (L.state lib.old).faults ≤ (L.state lib.new).faults }
-{
-    match link(alloc, valid, GIVEN_PAGES) {
+    match program_of(alloc, bytes, GIVEN_PAGES) {
         Ok(program) => from_body(alloc, program, invoke, lib),
-        Err(LinkFault::Refused(why)) => {
-            Ending::module_fault(alloc, 0, why.rule.number(), why.item)
-        }
-        Err(LinkFault::NoMemory) => Err(AllocError),
+        Err(Unmade::Unfit { number, place }) => Ending::module_fault(alloc, 0, number, place),
+        Err(Unmade::NoMemory) => Err(AllocError),
     }
 }
 

@@ -1,25 +1,27 @@
-use Rattle.std.proofs.Common.{rules, sym, subst}
+-- What the check of the bytes comes to is what is done here.
+use Rattle.std.proofs.Common.{◌≡◌, ℕ, Ok, Err, rules, ap, sym, subst}
 use Rattle.std.proofs.lemmas.Result.{IfOk-weaker}
-use Rattle.sledge.proofs.Checks.{check_spelt, check_refused}
+use Rattle.serve_config.specs.Loaded.{IsMade}
+use Rattle.serve_config.specs.Loading.{program_of}
+use Rattle.serve_config.specs.declared.load_faults.Unmade.{Unmade}
 use Rattle.sledge.proofs.Walking.{comes_end}
 use Rattle.sledge.specs.Accepted.{given_pages}
 use Rattle.sledge.specs.CommandLine.{invoke_view}
 use Rattle.sledge.specs.Commands.{body_plan}
+use Rattle.sledge.specs.ModuleChecks.{module_step}
 use Rattle.sledge.specs.Plans.{Comes, go_on}
 use Rattle.sledge.proofs.planning.from_bytes.Goals as goal
 
--- what the check of the bytes comes to is what is done here
-
 pub returns-in-Ok-clause-comes : goal.returns-in-Ok-clause-comes
 returns-in-Ok-clause-comes g c =
-    IfOk-weaker c.from_parts.result _ _
-    (λ e p. subst (λ step. Comes g.L.Library.gave (go_on (body_plan (invoke_view c.args.invoke)) step) c.args.lib.now c.from_parts.new.lib e)
-    (sym (check_spelt 0 given_pages c.args.bytes.now c.in-Ok.parts c.in-Ok.ensures.found)) p)
-    c.from_parts.ensures.comes
+    IfOk-weaker c.from_body.result _ _
+    (λ e p. subst (λ made. Comes g.L.Library.gave (go_on (body_plan (invoke_view c.args.invoke)) (module_step 0 made)) c.args.lib.now c.from_body.new.lib e)
+    (sym c.in-Ok.ensures.made) p)
+    c.from_body.ensures.comes
 
-pub returns-in-Err-Bytes-clause-comes : goal.returns-in-Err-Bytes-clause-comes
-returns-in-Err-Bytes-clause-comes g c =
+pub returns-in-Err-Unfit-clause-comes : goal.returns-in-Err-Unfit-clause-comes
+returns-in-Err-Unfit-clause-comes g c =
     IfOk-weaker c.module_fault.result _ _
-    (λ e p. subst (λ step. Comes g.L.Library.gave (go_on (body_plan (invoke_view c.args.invoke)) step) c.args.lib.now c.args.lib.now e)
-    (sym (check_refused 0 given_pages c.args.bytes.now c.in-Err-Bytes.fault (search rules))) (comes_end _ _ _ e p))
+    (λ e p. subst (λ made. Comes g.L.Library.gave (go_on (body_plan (invoke_view c.args.invoke)) (module_step 0 made)) c.args.lib.now c.args.lib.now e)
+    (sym (subst (λ (u : Unmade). IsMade (Err u) (program_of given_pages c.args.bytes.now)) c.in-Err-Unfit.field-0-is c.in-Err-Unfit.ensures.made)) (comes_end _ _ _ e p))
     c.module_fault.ensures

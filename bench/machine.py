@@ -1,10 +1,11 @@
 #!/usr/bin/env python3
 """Times loops of arithmetic, memory, calls and branches through the built program against wabt's `wasm-interp`.
 
-    machine.py [ROUNDS]      builds the program where it is not built, by the script `sledge` at the top
+    machine.py [ROUNDS [TURNS]]      builds the program where it is not built, by the script `sledge` at the top
 
-Each loop runs in both programs by turns, and the least processor time of the rounds counts, without that of a run of almost nothing.
-It prints nanoseconds a unit and the ratios; where `wasm-interp` (package `wabt`) is missing, the times alone.
+Each loop goes round so many times (2,000,000), and runs in both programs alternately. The least processor time of the rounds
+(5) counts, without that of a run of almost nothing. It prints nanoseconds a unit and the ratios; where `wasm-interp` (package
+`wabt`) is missing, the times alone.
 """
 
 import math
@@ -32,19 +33,19 @@ def counted(turns, inner, local_types="02 02 7F 01 7E"):
     return body(b"\x41" + signed(turns) + text("21 00 03 40") + text(inner) + text("20 00 41 01 6B 22 00 0D 00 0B"), local_types)
 
 
-# a name, the turns, and the module of so many turns
+# a name, and the module that goes round so many times
 LOOPS = [
     # x = (x * 31 + i) ^ (x >> 3), y = rotl(y, 5) + x
-    ("arithmetic", 2_000_000, lambda turns: module(exports=START, bodies=[counted(turns, "20 01 41 1F 6C 20 00 6A 20 01 41 03 76 73 21 01 20 02 42 05 89 20 01 AD 7C 21 02")])),
+    ("arithmetic", lambda turns: module(exports=START, bodies=[counted(turns, "20 01 41 1F 6C 20 00 6A 20 01 41 03 76 73 21 01 20 02 42 05 89 20 01 AD 7C 21 02")])),
     # a word is loaded, changed and stored, and a byte beside it
     (
-        "memory", 2_000_000,
+        "memory",
         lambda turns: module(exports=START, memories=["00 01"], bodies=[counted(turns, "20 00 41 FC FF 03 71 22 01 20 01 28 02 00 20 00 6A 36 02 00 20 01 2D 00 01 20 00 6A 21 01 41 07 20 01 3A 00 00")]),
     ),
     # a function of two parameters is called
-    ("calls", 2_000_000, lambda turns: module(exports=START, types=["60 00 00", "60 02 7F 7F 01 7F"], functions=["00", "01"], bodies=[counted(turns, "20 00 20 01 10 01 21 01"), body("20 00 20 01 6A")])),
+    ("calls", lambda turns: module(exports=START, types=["60 00 00", "60 02 7F 7F 01 7F"], functions=["00", "01"], bodies=[counted(turns, "20 00 20 01 10 01 21 01"), body("20 00 20 01 6A")])),
     # a table of three labels, a branch, and an if with else
-    ("branches", 2_000_000, lambda turns: module(exports=START, bodies=[counted(turns, "02 40 02 40 02 40 20 00 41 03 71 0E 02 00 01 02 0B 20 01 41 01 6A 21 01 0C 01 0B 20 01 04 40 20 01 41 02 6A 21 01 05 41 01 21 01 0B 0B")])),
+    ("branches", lambda turns: module(exports=START, bodies=[counted(turns, "02 40 02 40 02 40 20 00 41 03 71 0E 02 00 01 02 0B 20 01 41 01 6A 21 01 0C 01 0B 20 01 04 40 20 01 41 02 6A 21 01 05 41 01 21 01 0B 0B")])),
 ]  # fmt: skip
 
 
@@ -59,7 +60,7 @@ def seconds(words, folder):
 
 
 def least(programs, folder, rounds):
-    """The least time of each, run by turns, and what the first one said."""
+    """The least time of each, run alternately, and what the first one said."""
     times, note = [math.inf] * len(programs), ""
     for _ in range(rounds):
         for place, words in enumerate(programs):
@@ -75,7 +76,7 @@ def programs_of(name):
 
 
 def main(words):
-    rounds = int(words[0]) if words else 5
+    rounds, turns = [int(word) for word in words + ["5", "2000000"][len(words) :]]
     subprocess.run([SCRIPT, "--help"], check=True, stdout=subprocess.DEVNULL)
     ratios = []
     with tempfile.TemporaryDirectory() as folder:
@@ -83,7 +84,7 @@ def main(words):
             with open(os.path.join(folder, name), "wb") as file:
                 file.write(data)
         base, _ = least(programs_of("least"), folder, rounds)
-        for name, turns, made in LOOPS:
+        for name, made in LOOPS:
             with open(os.path.join(folder, name), "wb") as file:
                 file.write(made(turns))
             times, note = least(programs_of(name), folder, rounds)

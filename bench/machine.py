@@ -18,7 +18,6 @@ import tempfile
 TOP = os.path.join(os.path.dirname(os.path.abspath(__file__)), "..")
 sys.path.insert(0, os.path.join(TOP, "tests"))
 
-import module_writer  # noqa: E402
 from module_writer import body, module, signed, text  # noqa: E402
 
 SCRIPT = os.path.join(TOP, "sledge")

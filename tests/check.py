@@ -9,30 +9,11 @@ by key, `configurations.py` compares.
 
 import copy
 import json
-import os
-import subprocess
 import sys
 import tempfile
 
-TOP = os.path.join(os.path.dirname(os.path.abspath(__file__)), "..")
-PROGRAM = os.path.join(TOP, "sledge")
-
-# The module whose function does nothing.
-NOTHING = bytes.fromhex(
-    "00 61 73 6D 01 00 00 00 01 04 01 60 00 00 03 02 01 00 07 0A 01 06 5F 73 74 61 72 74 00 00 0A 04 01 02 00 0B"
-)
-
-# A module of a compiler: it has two pages of memory, reads the body and writes it to the reply.
-ECHO = bytes.fromhex(
-    """00 61 73 6D 01 00 00 00 01 0C 02 60 04 7F 7F 7F 7F 01 7F 60 00 00 02 44 02 16 77 61 73 69 5F 73 6E 61 70 73 68
-    6F 74 5F 70 72 65 76 69 65 77 31 07 66 64 5F 72 65 61 64 00 00 16 77 61 73 69 5F 73 6E 61 70 73 68 6F 74 5F 70 72
-    65 76 69 65 77 31 08 66 64 5F 77 72 69 74 65 00 00 03 02 01 01 05 03 01 00 02 06 08 01 7F 01 41 80 88 04 0B 07 13
-    02 06 6D 65 6D 6F 72 79 02 00 06 5F 73 74 61 72 74 00 02 0A 77 01 75 01 01 7F 23 80 80 80 80 00 41 10 6B 22 00 24
-    80 80 80 80 00 02 40 03 40 20 00 41 80 08 36 02 08 20 00 41 80 08 36 02 0C 41 00 20 00 41 08 6A 41 01 20 00 41 04
-    6A 10 80 80 80 80 00 0D 01 20 00 28 02 04 45 0D 01 20 00 20 00 28 02 04 36 02 0C 41 01 20 00 41 08 6A 41 01 20 00
-    41 04 6A 10 81 80 80 80 00 45 0D 00 0B 0B 20 00 41 10 6A 24 80 80 80 80 00 0B 00 10 04 6E 61 6D 65 01 09 01 02 06
-    5F 73 74 61 72 74"""
-)
+from running import TOP, build, differs, lay, run
+from whole_modules import ECHO, NOTHING
 
 CONFIG = {
     "workers": 2,
@@ -175,38 +156,20 @@ WORDS = [
 EXAMPLE = (["check", "examples/config/server.json"], counts(1, 2))
 
 
-def compared(name, wanted, got):
-    if wanted != got:
-        print(f"{name}: wanted {wanted!r}, got {got!r}")
-        return 1
-    return 0
-
-
-def run(words, folder, out=subprocess.PIPE):
-    done = subprocess.run([PROGRAM, *words], cwd=folder, stdout=out, stderr=subprocess.PIPE, timeout=120)
-    return done.returncode, done.stdout, done.stderr
-
-
-def lay(folder, contents):
-    for name, data in contents.items():
-        with open(os.path.join(folder, name), "wb") as file:
-            file.write(data)
-
-
 def main():
-    subprocess.run([PROGRAM, "--version"], stdout=subprocess.DEVNULL, check=True)
+    build()
     failed = 0
     for name, contents, wanted in CASES:
         with tempfile.TemporaryDirectory() as folder:
             lay(folder, contents)
-            failed += compared(name, wanted, run(["check", "c"], folder))
+            failed += differs(name, wanted, run(["check", "c"], folder))
     with tempfile.TemporaryDirectory() as folder:
         lay(folder, WHOLE)
         for words, wanted in WORDS:
-            failed += compared(words, wanted, run(words, folder))
+            failed += differs(words, wanted, run(words, folder))
         with open("/dev/full", "wb") as full:
-            failed += compared("an output that is full", (7, None, b""), run(["check", "c"], folder, full))
-    failed += compared("the example", EXAMPLE[1], run(EXAMPLE[0], TOP))
+            failed += differs("an output that is full", (7, None, b""), run(["check", "c"], folder, stdout=full))
+    failed += differs("the example", EXAMPLE[1], run(EXAMPLE[0], TOP))
     runs = len(CASES) + len(WORDS) + 2
     print(f"{runs - failed} passed, {failed} failed")
     return failed != 0

@@ -6,48 +6,47 @@
 Each expected text is written out here from the formats of docs/FORMATS.md.
 """
 
-import os
-import subprocess
 import sys
 import tempfile
 
-TOP = os.path.join(os.path.dirname(os.path.abspath(__file__)), "..")
-PROGRAM = os.path.join(TOP, "sledge")
+from running import build, differs, lay, run
+from whole_modules import ECHO, ENDLESS, MOST_FRAMES, NOTHING, ONE_FUNCTION, PAGE_FILLER, START, TAKES_NOTHING, TOO_MANY_FRAMES, ZERO_READER, text
 
 
-def module(body, types="01 04 01 60 00 00"):
+def module(body, types=TAKES_NOTHING):
     """The module of one function with this body and this type section, in hexadecimal, that is exported as `_start`."""
-    code = bytes.fromhex(body)
-    size = len(code) + 2
-    return (
-        bytes.fromhex("00 61 73 6D 01 00 00 00" + types + "03 02 01 00 07 0A 01 06 5F 73 74 61 72 74 00 00 0A")
-        + bytes([size + 2, 1, size, 0])
-        + code
-        + b"\x0b"
-    )
+    size = len(bytes.fromhex(body)) + 2
+    return text(types, ONE_FUNCTION, START, "0A", bytes([size + 2, 1, size, 0]).hex(), body, "0B")
 
 
 FILES = {
-    "m0": module(""),
-    "loop": module("03 40 0C 00 0B"),
+    "m0": NOTHING,
+    "loop": ENDLESS,
     "other_version": b"\x00asm\x02\x00\x00\x00",
     "empty": b"",
     "full": bytes(1 << 20),
     "long": bytes((1 << 20) + 1),
     "huge": bytes((4 << 20) + 1),
+    "b": bytes(place % 251 for place in range(3000)),
+    "big": bytes(place % 251 for place in range(65536)),
+    "bigger": bytes(65537),
 }
 
 
 def reply(status, kind, body):
-    return f"HTTP/1.1 {status}\r\nContent-Type: {kind}\r\nContent-Length: {len(body)}\r\n\r\n{body}".encode()
+    return f"HTTP/1.1 {status}\r\nContent-Type: {kind}\r\nContent-Length: {len(body)}\r\n\r\n".encode() + body
 
 
-OK = reply("200 OK", "application/octet-stream", "")
-SPENT = reply("504 Gateway Timeout", "text/plain", "budget spent")
+def replied(body):
+    return reply("200 OK", "application/octet-stream", body)
 
 
-def trap(text):
-    return reply("500 Internal Server Error", "text/plain", f"trap: {text}")
+def trap(cause):
+    return reply("500 Internal Server Error", "text/plain", f"trap: {cause}".encode())
+
+
+OK = replied(b"")
+SPENT = reply("504 Gateway Timeout", "text/plain", b"budget spent")
 
 
 # words, exit status, standard output, standard error
@@ -115,6 +114,29 @@ RUNS = [
     ("03 40 0C 00 0B", 0, SPENT, 0),
     # Behind unreachable a missing operand is of any type.
     ("00 1A 6A 1A", 10, trap("unreachable"), 1),
+    # An if with a result, of which one arm runs: two constants, the if and the drop are paid, `else` and `end` are not.
+    ("41 01 04 7F 41 07 05 41 08 0B 1A", 10, OK, 4),
+    ("41 00 04 7F 41 07 05 41 08 0B 1A", 10, OK, 4),
+]
+
+# a module, the name of the body, a budget, the reply, the units
+PROGRAMS = [
+    # `_start` pays 2, each call with a number above 0 pays 6, and that with 0 pays 2; one deeper there is no frame for it.
+    (MOST_FRAMES, "empty", 30000, OK, 24568),
+    (TOO_MANY_FRAMES, "empty", 30000, trap("call stack exhausted"), 24572),
+    # 6 operators before the loop, 38 for each read and 2 more for each 64 bytes of it, 22 for the last read, and 4 behind the loop
+    (ECHO, "b", 1000, replied(FILES["b"]), 238),
+    (ECHO, "b", 238, replied(FILES["b"]), 238),
+    (ECHO, "b", 237, SPENT, 237),
+    (ECHO, "big", 10000, replied(FILES["big"]), 4512),
+    # The reply is full before the last byte, whose write is refused for a price of 1.
+    (ECHO, "bigger", 10000, replied(FILES["bigger"][:65536]), 4527),
+    (PAGE_FILLER, "empty", 200000, OK, 180224),
+    (PAGE_FILLER, "empty", 180223, SPENT, 180223),
+    (ZERO_READER, "empty", 100, replied(bytes(16)), 13),
+    (ZERO_READER, "empty", 12, SPENT, 12),
+    # The write costs 2, which is more than what is left.
+    (ZERO_READER, "empty", 11, SPENT, 10),
 ]
 
 # operators whose module is refused with this number at this place
@@ -174,6 +196,8 @@ def cases():
         yield ["invoke", "m0", "empty", budget], None, of_module(None) if good else (2, b"", b"usage\n")
     for ops, budget, out, units in RUNS:
         yield ["invoke", "m", "empty", str(budget)], module(ops), (0, out, f"units {units}\n".encode())
+    for data, body, budget, out, units in PROGRAMS:
+        yield ["invoke", "m", body, str(budget)], data, (0, out, f"units {units}\n".encode())
     for ops, number, place in REFUSED_BODIES:
         yield ["invoke", "m", "empty", "10"], module(ops), of_module((number, place))
     for types, fault in TYPE_SECTIONS:
@@ -185,26 +209,17 @@ def cases():
     yield [b"invoke", b"m0", b"\xff", b"1"], None, (2, b"", b"usage\n")
 
 
-def check(name, wanted, got):
-    if wanted != got:
-        print(f"{name}: wanted {wanted!r}, got {got!r}")
-        return 1
-    return 0
-
-
-def run(words, folder, out=subprocess.PIPE):
-    done = subprocess.run([PROGRAM, *words], cwd=folder, stdout=out, stderr=subprocess.PIPE, timeout=120)
-    return done.returncode, done.stdout, done.stderr
+SHAPES = ["invoke MODULE BODY BUDGET", "check CONFIG", "replay CONFIG RECORDING", "soak START COUNT", "--help", "--version"]
 
 
 def help_is_whole(shown):
-    """It shows each shape and each exit status, and fits a terminal of 80 columns."""
+    """It shows just these shapes and each exit status, and fits a terminal of 80 columns."""
     lines = shown.decode().splitlines()
-    shapes = ["  sledge invoke MODULE BODY BUDGET", "  sledge check CONFIG", "  sledge --help", "  sledge --version"]
+    shapes = [line for line in lines if line.startswith("  sledge ")]
     statuses = [line.split()[0] for line in lines if line[:3].strip().isdigit() and line[:2] == "  "]
     return (
         lines[0] == "usage:"
-        and all(shape in lines for shape in shapes)
+        and shapes == ["  sledge " + shape for shape in SHAPES]
         and statuses == ["0", "2", "3", "4", "5", "6", "7", "8", "9", "10"]
         and any("docs/FORMATS.md" in line for line in lines)
         and all(len(line) <= 80 for line in lines)
@@ -212,26 +227,20 @@ def help_is_whole(shown):
 
 
 def main():
-    subprocess.run([PROGRAM, "--version"], stdout=subprocess.DEVNULL, check=True)
-    failed = 0
-    runs = 0
+    build()
     with tempfile.TemporaryDirectory() as folder:
-        for name, content in FILES.items():
-            with open(os.path.join(folder, name), "wb") as file:
-                file.write(content)
+        lay(folder, FILES)
+        results = []
         for words, own, wanted in cases():
             if own is not None:
-                with open(os.path.join(folder, "m"), "wb") as file:
-                    file.write(own)
-            runs += 1
-            failed += check(f"{words} {own.hex(' ') if own else ''}", wanted, run(words, folder))
+                lay(folder, {"m": own})
+            results.append(differs(f"{words} {own.hex(' ') if own else ''}", wanted, run(words, folder)))
         status, shown, notes = run(["--help"], folder)
-        failed += check("--help", (0, True, b""), (status, help_is_whole(shown), notes))
+        results.append(differs("--help", (0, True, b""), (status, help_is_whole(shown), notes)))
         with open("/dev/full", "wb") as full:
-            failed += check("an output that is full", (7, None, b""), run(["invoke", "m0", "empty", "10"], folder, full))
-        runs += 2
-    print(f"{runs - failed} passed, {failed} failed")
-    return failed != 0
+            results.append(differs("an output that is full", (7, None, b""), run(["invoke", "m0", "empty", "10"], folder, stdout=full)))
+    print(f"{len(results) - sum(results)} passed, {sum(results)} failed")
+    return any(results)
 
 
 sys.exit(main())

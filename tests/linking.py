@@ -7,7 +7,6 @@ Each expected refusal is written out here, after docs/FORMATS.md, and compared w
 is linked is run.
 """
 
-import os
 import sys
 import tempfile
 

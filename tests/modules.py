@@ -13,9 +13,7 @@ often each number came.
 """
 
 import collections
-import os
 import random
-import subprocess
 import sys
 import tempfile
 
@@ -23,10 +21,7 @@ import interpreter
 import module_reader
 import module_table
 import module_validator
-
-TOP = os.path.join(os.path.dirname(os.path.abspath(__file__)), "..")
-SCRIPT = os.path.join(TOP, "sledge")
-PROGRAM = os.path.join(TOP, "crates", "sledge", "out", "sledge")
+from running import build, lay, run
 
 
 def module(*sections):
@@ -182,10 +177,9 @@ def changed_module(rng):
 
 def note_of(folder, data):
     """What the program says of a file: its exit status and its note."""
-    with open(os.path.join(folder, "module"), "wb") as file:
-        file.write(data)
-    done = subprocess.run([PROGRAM, "invoke", "module", "body", "10"], cwd=folder, capture_output=True, timeout=120)
-    return done.returncode, done.stderr.decode()
+    lay(folder, {"module": data})
+    status, _, notes = run(["invoke", "module", "body", "10"], folder)
+    return status, notes.decode()
 
 
 def first_broken(data):
@@ -204,13 +198,12 @@ def agrees(status, note, data, refusal):
 def main():
     count = int(sys.argv[1]) if len(sys.argv) > 1 else 3_000
     rng = random.Random(int(sys.argv[2]) if len(sys.argv) > 2 else 1)
-    subprocess.run([SCRIPT, "--version"], stdout=subprocess.DEVNULL, check=True)
+    build()
     seen = collections.Counter()
     failed = 0
     tables = [*limit_files(), *cut_files()]
     with tempfile.TemporaryDirectory() as folder:
-        with open(os.path.join(folder, "body"), "wb"):
-            pass
+        lay(folder, {"body": b""})
         for title, data, refusal in tables:
             status, note = note_of(folder, data)
             if not agrees(status, note, data, refusal) or module_reader.refusal(data) != refusal:

@@ -170,7 +170,6 @@ def modules():
         calls = [b"\x10" + number(place) for place in range(1, len(counts))] + [b""]
         bodies = [body(code, b"\x01" + number(count) + b"\x7f") for code, count in zip(calls, counts)]
         yield "calls of %d locals" % sum(counts), module(bodies=bodies, exports=START)
-    yield "a body of a megabyte", program(b"\x01" * (2**20 - 20))
     recursive = [body("10 00")]
     yield "calls without end", module(bodies=recursive, exports=START)
     for cells in (15, 16, 17):
@@ -187,6 +186,7 @@ def control_cases():
         yield Case(name, program(code, "02 01 7F 01 7E"))
     for name, data in modules():
         yield Case(name, data, budget=2 * 10**5)
+    yield Case("a body of a megabyte", program(b"\x01" * (2**20 - 20)), budget=2**20)
 
 
 def budget_cases():

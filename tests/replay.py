@@ -9,13 +9,12 @@ Each expected text is written out here from the formats of docs/FORMATS.md.
 import copy
 import json
 import os
-import subprocess
 import sys
 import tempfile
 
 import recordings
 from replays import MODULES, Connection, Item, Route, Tenant, due, request
-from running import PROGRAM, TOP, build
+from running import TOP, build, differs, lay, run
 
 CONFIG = {
     "workers": 2, "quantum": 1000, "policy": "rr", "berths": 2,
@@ -162,76 +161,67 @@ def example():
     return due([Tenant(tenant["capacity"], tenant["rate"], routes)], config["quantum"], connections, records)
 
 
-def run(folder, words, **others):
-    return subprocess.run([PROGRAM, *words], cwd=folder, capture_output="stdout" not in others, timeout=120, **others)
+REPLAY = ["replay", "config", "recording"]
+
+# words, exit status, notes
+WORDS = [
+    ("replay config", 2, b"usage\n"),
+    ("replay config none", 3, b"read none\n"),
+    ("replay none recording", 3, b"read none\n"),
+    ("replay recording recording", 4, b"config 60\n"),
+    ("replay config long", 6, b"recording 76\n"),
+    # The configuration comes before its modules, and they before the recording.
+    ("replay broken none", 5, b"module 15 0 0\n"),
+]
 
 
-def check(name, wanted, got):
-    if wanted != got:
-        print("%s:\n  wanted %r\n  got    %r" % (name, wanted, got))
-        return 1
-    return 0
+def with_files(folder):
+    """Each case with its files, what it must leave, and what it leaves."""
+    for name, config, recording, *wanted in cases():
+        lay(folder, {"config": json.dumps(config).encode(), "recording": recording})
+        yield name, tuple(wanted), run(REPLAY, folder)
+
+
+def with_words(folder):
+    """The same of other words beside the files of the two requests."""
+    tenant = CONFIG["tenants"][0]
+    broken = changed(CONFIG, tenants=[changed(tenant, routes=[changed(tenant["routes"][1], module="config")])])
+    lay(folder, {"broken": json.dumps(broken).encode(), "long": bytes((32 << 20) + 1)})
+    for words, status, notes in WORDS:
+        yield words, (status, b"", notes), run(words.split(" "), folder)
+
+
+def with_faults(folder):
+    """The same where an output is full, or where a folder stands in the place of a file that the two requests' replay reads."""
+    with open("/dev/full", "wb") as full:
+        yield "an output that is full", (7, None, b""), run(REPLAY, folder, stdout=full)
+        yield "notes that are full", (7, TWO_ANSWERS, None), run(REPLAY, folder, stderr=full)
+    for name in ("config", "echo", "nil", "recording"):
+        path = os.path.join(folder, name)
+        os.rename(path, path + ".kept")
+        os.mkdir(path)
+        yield "a read that fails of " + name, (3, b"", b"read %s\n" % name.encode()), run(REPLAY, folder)
+        os.rmdir(path)
+        os.rename(path + ".kept", path)
+
+
+def with_the_example():
+    with open(os.path.join(TOP, "examples", "replay", "answers"), "rb") as file:
+        stored = file.read()
+    yield "examples/replay", example(), run(["replay", "examples/replay/config.json", "examples/replay/recording"], TOP)
+    yield "examples/replay/answers", example()[1], stored
 
 
 def main():
     build()
-    failed = runs = 0
     with tempfile.TemporaryDirectory() as folder:
-
-        def put(name, data):
-            with open(os.path.join(folder, name), "wb") as file:
-                file.write(data)
-
-        for name, data in MODULES.items():
-            put(name, data)
-        for name, config, recording, *wanted in cases():
-            put("config", json.dumps(config).encode())
-            put("recording", recording)
-            done = run(folder, ["replay", "config", "recording"])
-            failed += check(name, tuple(wanted), (done.returncode, done.stdout, done.stderr))
-            runs += 1
-        put("config", json.dumps(CONFIG).encode())
-        put("recording", one(TWO))
-        put("long", bytes((32 << 20) + 1))
-        for words, status, notes in (
-            ("replay config", 2, b"usage\n"),
-            ("replay config none", 3, b"read none\n"),
-            ("replay none recording", 3, b"read none\n"),
-            ("replay recording recording", 4, b"config 60\n"),
-            ("replay config long", 6, b"recording 76\n"),
-        ):
-            done = run(folder, words.split(" "))
-            failed += check(words, (status, b"", notes), (done.returncode, done.stdout, done.stderr))
-            runs += 1
-        # The configuration comes before its modules, and they before the recording.
-        put("broken", json.dumps(changed(CONFIG, tenants=[changed(CONFIG["tenants"][0], routes=[changed(CONFIG["tenants"][0]["routes"][1], module="config")])])).encode())
-        done = run(folder, ["replay", "broken", "none"])
-        failed += check("a module that is none", (5, b"", b"module 15 0 0\n"), (done.returncode, done.stdout, done.stderr))
-        with open("/dev/full", "wb") as full:
-            done = run(folder, ["replay", "config", "recording"], stdout=full, stderr=subprocess.PIPE)
-        failed += check("an output that is full", (7, b""), (done.returncode, done.stderr))
-        with open("/dev/full", "wb") as full:
-            done = run(folder, ["replay", "config", "recording"], stdout=subprocess.PIPE, stderr=full)
-        failed += check("notes that are full", (7, TWO_ANSWERS), (done.returncode, done.stdout))
-        runs += 3
-        # Each read of the two requests' replay fails in turn: there is a folder where its file was.
-        for name in ("config", "echo", "nil", "recording"):
-            path = os.path.join(folder, name)
-            os.rename(path, path + ".kept")
-            os.mkdir(path)
-            done = run(folder, ["replay", "config", "recording"])
-            failed += check("a read that fails of " + name, (3, b"", b"read %s\n" % name.encode()), (done.returncode, done.stdout, done.stderr))
-            os.rmdir(path)
-            os.rename(path + ".kept", path)
-            runs += 1
-    with open(os.path.join(TOP, "examples", "replay", "answers"), "rb") as file:
-        stored = file.read()
-    done = run(TOP, ["replay", "examples/replay/config.json", "examples/replay/recording"])
-    failed += check("examples/replay", example(), (done.returncode, done.stdout, done.stderr))
-    failed += check("examples/replay/answers", example()[1], stored)
-    runs += 2
-    print("%d passed, %d failed" % (runs - failed, failed))
-    return failed != 0
+        lay(folder, MODULES)
+        results = [differs(*result) for result in with_files(folder)]
+        lay(folder, {"config": json.dumps(CONFIG).encode(), "recording": one(TWO)})
+        results += [differs(*result) for results_of in (with_words, with_faults) for result in results_of(folder)]
+    results += [differs(*result) for result in with_the_example()]
+    print("%d passed, %d failed" % (len(results) - sum(results), sum(results)))
+    return any(results)
 
 
 if __name__ == "__main__":

@@ -14,7 +14,6 @@ import json
 import os
 import random
 import struct
-import subprocess
 import sys
 import tempfile
 from concurrent.futures import ThreadPoolExecutor
@@ -24,41 +23,21 @@ import module_validator
 import recordings
 from http_items import REFUSALS
 from module_writer import module
-from running import PROGRAM, build
+from running import build, differs, lay, run
+from whole_modules import ECHO, ENDLESS, NOTHING, PAGE_FILLER, UNREACHABLE, ZERO_READER
 
 START = "06 5F 73 74 61 72 74 00"
 MOST_ITEMS = 4096
 
-# It reads its body in pieces of 1,024 bytes, and replies with them.
-ECHO = bytes.fromhex(
-    "00 61 73 6D 01 00 00 00 01 0C 02 60 04 7F 7F 7F 7F 01 7F 60 00 00 02 44 02 16 77 61 73 69 5F 73 6E 61 70 73 68"
-    "6F 74 5F 70 72 65 76 69 65 77 31 07 66 64 5F 72 65 61 64 00 00 16 77 61 73 69 5F 73 6E 61 70 73 68 6F 74 5F 70"
-    "72 65 76 69 65 77 31 08 66 64 5F 77 72 69 74 65 00 00 03 02 01 01 05 03 01 00 02 06 08 01 7F 01 41 80 88 04 0B"
-    "07 13 02 06 6D 65 6D 6F 72 79 02 00 06 5F 73 74 61 72 74 00 02 0A 77 01 75 01 01 7F 23 80 80 80 80 00 41 10 6B"
-    "22 00 24 80 80 80 80 00 02 40 03 40 20 00 41 80 08 36 02 08 20 00 41 80 08 36 02 0C 41 00 20 00 41 08 6A 41 01"
-    "20 00 41 04 6A 10 80 80 80 80 00 0D 01 20 00 28 02 04 45 0D 01 20 00 20 00 28 02 04 36 02 0C 41 01 20 00 41 08"
-    "6A 41 01 20 00 41 04 6A 10 81 80 80 80 00 45 0D 00 0B 0B 20 00 41 10 6A 24 80 80 80 80 00 0B 00 10 04 6E 61 6D"
-    "65 01 09 01 02 06 5F 73 74 61 72 74"
-)
-WRITES = "16 77 61 73 69 5F 73 6E 61 70 73 68 6F 74 5F 70 72 65 76 69 65 77 31 08 66 64 5F 77 72 69 74 65 00 00"
 EXITS = "16 77 61 73 69 5F 73 6E 61 70 73 68 6F 74 5F 70 72 65 76 69 65 77 31 09 70 72 6F 63 5F 65 78 69 74 00 00"
 MODULES = {
-    "nil": module(exports=[START + "00"], bodies=[""]),
-    "trap": module(exports=[START + "00"], bodies=["00"]),
-    "loop": module(exports=[START + "00"], bodies=["03 40 0C 00 0B"]),
+    "nil": NOTHING,
+    "trap": UNREACHABLE,
+    "loop": ENDLESS,
     "exit": module(types=["60 01 7F 00", "60 00 00"], imports=[EXITS], functions=["01"], exports=[START + "01"], bodies=["41 03 10 00"]),
     "echo": ECHO,
-    # It fills a page with FF.
-    "fill": bytes.fromhex(
-        "00 61 73 6D 01 00 00 00 01 04 01 60 00 00 03 02 01 00 05 03 01 00 01 07 0A 01 06 5F 73 74 61 72 74 00 00"
-        "0A 1E 01 1C 01 01 7F 03 40 20 00 41 7F 36 02 00 20 00 41 04 6A 22 00 41 80 80 04 49 0D 00 0B 0B"
-    ),
-    # It replies with 16 bytes of memory that nothing has written to.
-    "zero": bytes.fromhex(
-        "00 61 73 6D 01 00 00 00 01 0C 02 60 04 7F 7F 7F 7F 01 7F 60 00 00 02 23 01" + WRITES + "03 02 01 01 05 03 01 00 01"
-        "07 0A 01 06 5F 73 74 61 72 74 00 01 0A 1E 01 1C 00 41 00 41 80 08 36 02 00 41 00 41 10 36 02 04 41 01 41 00 41 01"
-        "41 08 10 00 1A 0B"
-    ),
+    "fill": PAGE_FILLER,
+    "zero": ZERO_READER,
 }
 
 
@@ -272,25 +251,17 @@ class Case:
 
 def replayed(folder, number, case):
     names = ["%s%d" % (kind, number) for kind in ("config", "recording")]
-    for name, data in zip(names, (json.dumps(case.config).encode(), case.data)):
-        with open(os.path.join(folder, name), "wb") as file:
-            file.write(data)
-    done = subprocess.run([PROGRAM, "replay", *names], cwd=folder, capture_output=True, timeout=100)
-    return done.returncode, done.stdout, done.stderr
+    lay(folder, dict(zip(names, (json.dumps(case.config).encode(), case.data))))
+    return run(["replay", *names], folder)
 
 
 def compare(cases):
     """Prints each case that differs, and answers how many did."""
     build()
-    failed = 0
     with tempfile.TemporaryDirectory() as folder, ThreadPoolExecutor(os.cpu_count()) as pool:
-        for name, data in MODULES.items():
-            with open(os.path.join(folder, name), "wb") as file:
-                file.write(data)
-        for case, got in zip(cases, pool.map(lambda item: replayed(folder, *item), enumerate(cases))):
-            if got != case.wanted:
-                failed += 1
-                print("%s:\n  wanted %r\n  got    %r" % (case.name, case.wanted, got))
+        lay(folder, MODULES)
+        answers = pool.map(lambda item: replayed(folder, *item), enumerate(cases))
+        failed = sum(differs(case.name, case.wanted, got) for case, got in zip(cases, answers))
     print("%d passed, %d failed" % (len(cases) - failed, failed))
     return failed
 
@@ -315,13 +286,22 @@ def made_case(chance, name):
 
 
 def limit_cases():
-    """As many items as there may be, and one more."""
+    """As many items as there may be, and one more: on one connection and on two, and with a refusal that its end is."""
     tenants = [Tenant(10**6, 0, [Route("/nil", "nil", 10, 1, 0)])]
-    for count in (MOST_ITEMS, MOST_ITEMS + 1):
-        items = [request(b"GET", b"/nil") for _ in range(count)]
-        connections = [Connection(0, items)]
-        records = [(0, 0, 0), (0, 0, connections[0].data)]
-        yield Case("%d items" % count, tenants, 100, connections, records)
+    ask = request(b"GET", b"/nil")
+    cut_head = b"GET /nil HTTP/1.1\r\nHo", Item(b"", number=1, keep=False)
+
+    def case(*connections):
+        begun = [(0, link, 0) for link in range(len(connections))]
+        arrived_at_once = [(0, link, connection.data) for link, connection in enumerate(connections)]
+        counts = " and ".join(str(len(connection.items)) for connection in connections)
+        return Case("%s items" % counts, tenants, 100, connections, begun + arrived_at_once)
+
+    for over in (0, 1):
+        yield case(Connection(0, [ask] * (MOST_ITEMS + over)))
+        yield case(Connection(0, [ask] * (MOST_ITEMS - 1 + over), *cut_head))
+        yield case(Connection(0, [ask] * 2048), Connection(0, [ask] * (2048 + over)))
+        yield case(Connection(0, [ask] * (MOST_ITEMS - 1)), Connection(0, [ask] * over, *cut_head))
 
 
 def main(words):

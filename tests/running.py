@@ -1,4 +1,4 @@
-"""Runs the built program on modules, and compares what it says with the interpreter in Python."""
+"""Runs the built program, and compares what it leaves with what it must; of modules, with what the interpreter in Python says."""
 
 import os
 import subprocess
@@ -35,14 +35,31 @@ def build():
     subprocess.run([SCRIPT, "--help"], check=True, stdout=subprocess.DEVNULL)
 
 
-def ran(folder, number, case):
-    names = ["%s%d" % (kind, number) for kind in ("module", "body")]
-    for name, data in zip(names, (case.data, case.body)):
+def lay(folder, contents):
+    """Writes files of these names and bytes."""
+    for name, data in contents.items():
         with open(os.path.join(folder, name), "wb") as file:
             file.write(data)
-    words = [PROGRAM, "invoke", *names, str(case.budget)]
-    done = subprocess.run(words, cwd=folder, capture_output=True, timeout=100)
-    return done.returncode, done.stdout, done.stderr.decode()
+
+
+def run(words, folder, **streams):
+    """Exit status, standard output and standard error of the program with these words in this folder; None for a stream of one's own."""
+    done = subprocess.run([PROGRAM, *words], cwd=folder, timeout=120, **{"stdout": subprocess.PIPE, "stderr": subprocess.PIPE, **streams})
+    return done.returncode, done.stdout, done.stderr
+
+
+def differs(name, wanted, got):
+    """Whether they differ, which is printed."""
+    if wanted != got:
+        print(f"{name}:\n  wanted {wanted!r}\n  got    {got!r}")
+    return wanted != got
+
+
+def ran(folder, number, case):
+    names = ["%s%d" % (kind, number) for kind in ("module", "body")]
+    lay(folder, dict(zip(names, (case.data, case.body))))
+    status, out, notes = run(["invoke", *names, str(case.budget)], folder)
+    return status, out, notes.decode()
 
 
 def compare(cases):
@@ -52,9 +69,6 @@ def compare(cases):
     with tempfile.TemporaryDirectory() as folder, ThreadPoolExecutor(os.cpu_count()) as pool:
         results = pool.map(lambda item: ran(folder, *item), enumerate(cases))
         for case, got in zip(cases, results):
-            wanted = case.wanted()
-            if got != wanted:
-                failed += 1
-                print("%s, budget %d:\n  wanted %r\n  got    %r" % (case.name, case.budget, wanted, got))
+            failed += differs("%s, budget %d" % (case.name, case.budget), case.wanted(), got)
     print("%d passed, %d failed" % (len(cases) - failed, failed))
     return failed

@@ -9,16 +9,15 @@ same recording, with the configuration and the modules as files, must say the sa
 """
 
 import functools
-import os
 import struct
-import subprocess
 import sys
 import tempfile
 
 import interpreter
 import module_validator
 import recordings
-from running import PROGRAM, build
+from running import build, differs, lay, run
+from whole_modules import ECHO, ENDLESS, NOTHING, UNREACHABLE
 
 MULTIPLIER, INCREMENT = 6364136223846793005, 1442695040888963407
 MOST_LINKS = 16
@@ -32,21 +31,11 @@ CONFIGURATION = b"""\
 {"path":"/loop","module":"m2","budget":1000,"pages":1,"estimate":1000,"deadline":20},\
 {"path":"/echo","module":"e","budget":1000,"pages":2,"estimate":200,"deadline":20}]}]}"""
 
-FRONT = "00 61 73 6D 01 00 00 00 01 04 01 60 00 00 03 02 01 00 07 0A 01 06 5F 73 74 61 72 74 00 00"
-ECHO = """
-00 61 73 6D 01 00 00 00 01 0C 02 60 04 7F 7F 7F 7F 01 7F 60 00 00 02 44 02 16 77 61 73 69 5F 73 6E 61 70 73 68 6F 74 5F 70 72 65
-76 69 65 77 31 07 66 64 5F 72 65 61 64 00 00 16 77 61 73 69 5F 73 6E 61 70 73 68 6F 74 5F 70 72 65 76 69 65 77 31 08 66 64 5F 77
-72 69 74 65 00 00 03 02 01 01 05 03 01 00 02 06 08 01 7F 01 41 80 88 04 0B 07 13 02 06 6D 65 6D 6F 72 79 02 00 06 5F 73 74 61 72
-74 00 02 0A 77 01 75 01 01 7F 23 80 80 80 80 00 41 10 6B 22 00 24 80 80 80 80 00 02 40 03 40 20 00 41 80 08 36 02 08 20 00 41 80
-08 36 02 0C 41 00 20 00 41 08 6A 41 01 20 00 41 04 6A 10 80 80 80 80 00 0D 01 20 00 28 02 04 45 0D 01 20 00 20 00 28 02 04 36 02
-0C 41 01 20 00 41 08 6A 41 01 20 00 41 04 6A 10 81 80 80 80 00 45 0D 00 0B 0B 20 00 41 10 6A 24 80 80 80 80 00 0B 00 10 04 6E 61
-6D 65 01 09 01 02 06 5F 73 74 61 72 74"""
-
 # path, file, module, pages, estimate
 ROUTES = [
-    ("/nil", "m0", FRONT + "0A 04 01 02 00 0B", 1, 10),
-    ("/trap", "m1", FRONT + "0A 05 01 03 00 00 0B", 1, 10),
-    ("/loop", "m2", FRONT + "0A 09 01 07 00 03 40 0C 00 0B 0B", 1, 1000),
+    ("/nil", "m0", NOTHING, 1, 10),
+    ("/trap", "m1", UNREACHABLE, 1, 10),
+    ("/loop", "m2", ENDLESS, 1, 1000),
     ("/echo", "e", ECHO, 2, 200),
 ]
 
@@ -114,7 +103,7 @@ def admitted(asked):
 def answer(route, body):
     """The reply, the turns and the units of a request."""
     _, _, code, pages, _ = ROUTES[route]
-    verdict, prices = interpreter.run(module_validator.decode(bytes.fromhex(code)), body, BUDGET, pages)
+    verdict, prices = interpreter.run(module_validator.decode(code), body, BUDGET, pages)
     return interpreter.reply_text(verdict), interpreter.turns(prices, QUANTUM), sum(prices)
 
 
@@ -141,23 +130,9 @@ def replies(start, count):
 # ---- the built program
 
 
-def ran(words, folder="."):
-    done = subprocess.run([PROGRAM, *words], cwd=folder, capture_output=True, timeout=100)
-    return done.returncode, done.stdout, done.stderr
-
-
-def differs(words, got, wanted):
-    if got != wanted:
-        print("%s:\n  wanted %r\n  got    %r" % (" ".join(words), wanted, got))
-    return got != wanted
-
-
 def write(folder, start, count):
-    files = [("config", CONFIGURATION), ("recording", recording(start, count))]
-    files += [(name, bytes.fromhex(code)) for _, name, code, _, _ in ROUTES]
-    for name, data in files:
-        with open(os.path.join(folder, name), "wb") as file:
-            file.write(data)
+    modules = {name: code for _, name, code, _, _ in ROUTES}
+    lay(folder, {"config": CONFIGURATION, "recording": recording(start, count), **modules})
 
 
 def cases():
@@ -171,18 +146,14 @@ def cases():
 
 def compare():
     build()
-    passed = failed = 0
-    for words, wanted in cases():
-        wrong = differs(words, ran(words), wanted)
-        passed, failed = passed + (not wrong), failed + wrong
+    results = [differs(" ".join(words), wanted, run(words, ".")) for words, wanted in cases()]
     for start, count in REPLAYS:
         with tempfile.TemporaryDirectory() as folder:
             write(folder, start, count)
             wanted = (0, replies(start, count), summary(start, count).encode() + b"\n")
-            wrong = differs(["replay of soak", str(start), str(count)], ran(["replay", "config", "recording"], folder), wanted)
-        passed, failed = passed + (not wrong), failed + wrong
-    print("%d passed, %d failed" % (passed, failed))
-    return failed != 0
+            results.append(differs("replay of soak %d %d" % (start, count), wanted, run(["replay", "config", "recording"], folder)))
+    print("%d passed, %d failed" % (len(results) - sum(results), sum(results)))
+    return any(results)
 
 
 def main(words):

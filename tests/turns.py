@@ -17,9 +17,10 @@ import fresh_states
 import interpreter
 import module_validator
 import programs
-from host_calls import EXIT, WRITE, call, const, filled, laid
+from host_calls import EXIT, WRITE, call, filled, laid
 from host_calls import program as calling
-from module_writer import body, module, text
+from module_writer import module
+from whole_modules import ECHO, ENDLESS, MOST_FRAMES, NOTHING, PAGE_FILLER, UNREACHABLE, ZERO_READER
 
 QUANTA = [1, 2, 3, 7, 100, 2**32 - 1]
 GREATEST = 2**64 - 1
@@ -31,32 +32,11 @@ def one(operators, **parts):
     return module(bodies=[operators], exports=START, **parts)
 
 
-NOTHING, UNREACHABLE, ENDLESS = one(""), one("00"), one("03 40 0C 00 0B")
 NOPS, BY_ZERO = one("01 01 01"), one("41 07 41 00 6E 1A")
 # Blocks that are left and come to their ends: moves that cost nothing, in front of operators and behind the last one.
 BLOCKS = one("02 40 02 40 02 40 01 0B 0B 0B 02 40 0C 00 0B 41 00 04 40 01 05 01 01 0B 02 40 02 40 0C 01 0B 0B")
 # A function that calls itself until no frame is left: the last call is paid, and entering traps for nothing.
 DEEP = module(functions=["00"], bodies=["10 00"], exports=START)
-CALLS = text(
-    "00 61 73 6D 01 00 00 00 01 08 02 60 00 00 60 01 7F 00 03 03 02 00 01 07 0A 01 06 5F 73 74 61 72 74 00 00"
-    "0A 18 02 07 00 41 FE 1F 10 01 0B 0E 00 20 00 04 40 20 00 41 01 6B 10 01 0B 0B"
-)
-ECHO = text(
-    "00 61 73 6D 01 00 00 00 01 0C 02 60 04 7F 7F 7F 7F 01 7F 60 00 00 02 44 02 16 77 61 73 69 5F 73 6E 61 70 73 68 6F 74 5F 70 72 65"
-    "76 69 65 77 31 07 66 64 5F 72 65 61 64 00 00 16 77 61 73 69 5F 73 6E 61 70 73 68 6F 74 5F 70 72 65 76 69 65 77 31 08 66 64 5F 77"
-    "72 69 74 65 00 00 03 02 01 01 05 03 01 00 02 06 08 01 7F 01 41 80 88 04 0B 07 13 02 06 6D 65 6D 6F 72 79 02 00 06 5F 73 74 61 72"
-    "74 00 02 0A 77 01 75 01 01 7F 23 80 80 80 80 00 41 10 6B 22 00 24 80 80 80 80 00 02 40 03 40 20 00 41 80 08 36 02 08 20 00 41 80"
-    "08 36 02 0C 41 00 20 00 41 08 6A 41 01 20 00 41 04 6A 10 80 80 80 80 00 0D 01 20 00 28 02 04 45 0D 01 20 00 20 00 28 02 04 36 02"
-    "0C 41 01 20 00 41 08 6A 41 01 20 00 41 04 6A 10 81 80 80 80 00 45 0D 00 0B 0B 20 00 41 10 6A 24 80 80 80 80 00 0B 00 10 04 6E 61"
-    "6D 65 01 09 01 02 06 5F 73 74 61 72 74"
-)
-# Fills its page with FF, for 180,224 units; and replies with 16 bytes that it has not written, for 13.
-PAGE_FILLER = one(body("03 40 20 00 41 7F 36 02 00 20 00 41 04 6A 22 00 41 80 80 04 49 0D 00 0B", "01 01 7F"), memories=["00 01"])
-ZERO_READER = text(
-    "00 61 73 6D 01 00 00 00 01 0C 02 60 04 7F 7F 7F 7F 01 7F 60 00 00 02 23 01 16 77 61 73 69 5F 73 6E 61 70 73 68 6F 74 5F 70 72 65"
-    "76 69 65 77 31 08 66 64 5F 77 72 69 74 65 00 00 03 02 01 01 05 03 01 00 01 07 0A 01 06 5F 73 74 61 72 74 00 01 0A 1E 01 1C 00 41"
-    "00 41 80 08 36 02 00 41 00 41 10 36 02 04 41 01 41 00 41 01 41 08 10 00 1A 0B"
-)
 # A start function before `_start`, both with a nop: they share a turn.
 TWO_ENTRIES = module(functions=["00", "00"], bodies=["01", "01 01"], exports=START, start="01")
 # Ends itself with a code behind a reply of three bytes; `proc_exit` costs 1, as all operators before it but the write, which costs 2.
@@ -119,7 +99,7 @@ PROGRAMS = [
     ("the endless loop", ENDLESS, b"", [0, 6, 100, 1001]),
     ("blocks", BLOCKS, b"", [3, 11, 100]),
     ("a deep recursion", DEEP, b"", [200, 5000]),
-    ("4,096 frames", CALLS, b"", [30000]),
+    ("4,096 frames", MOST_FRAMES, b"", [30000]),
     ("the echo", ECHO, BODY, [1000]),
     ("the echo of little", ECHO, b"hi", [70, 71, 72]),
     ("two entries", TWO_ENTRIES, b"", [2, 3, 100]),

@@ -1,5 +1,5 @@
 -- What a library holds, which bytes a read of it answers, and when each of its answers other than bytes comes.
-use Rattle.std.specs.Prelude.{◌≡◌, ℕ, ◌+◌, ◌≤◌, List, Option, None, Some, Result, Ok, Err, IfSome, take, Vec, ⊤}
+use Rattle.std.specs.Prelude.{◌≡◌, ℕ, ◌+◌, ◌<◌, ◌≤◌, List, Option, None, Some, Result, Ok, Err, IfSome, slice_index, take, Vec, ⊤}
 use Rattle.std.specs.Option.{option_map}
 use Rattle.std.specs.declared.alloc.Global.{Global}
 use Rattle.outside.specs.Faults.{Rose}
@@ -51,8 +51,19 @@ IsTold None name most before now (Gives None) = Rose before now
 IsTold None name most before now (Gives (Some bytes)) = ⊤
 IsTold held name most before now Fails = Rose before now
 
+-- these numbers are bytes
+abbrev pub AreBytes : List ℕ → Type 0
+AreBytes bytes = (k : ℕ) → slice_index bytes k < 256
+
+-- what a read gives are bytes
+abbrev pub GivesBytes : Fetched → Type 0
+GivesBytes (Gives (Some bytes)) = AreBytes bytes
+GivesBytes (Gives None) = ⊤
+GivesBytes Fails = ⊤
+
 -- what is known of what a read came to between two states
 pub record Tells (old new : LibraryState) (name : List ℕ) (most : ℕ) (fetched : Fetched) : Type 0 where
   pub told : IsTold old.held name most old.faults new.faults fetched
+  pub bytes : GivesBytes fetched
   pub same : new.held ≡ old.held
   pub later : old.faults ≤ new.faults

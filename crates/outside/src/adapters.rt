@@ -2,12 +2,12 @@
 //
 // They loop over `read` and `write` themselves, count each error, and go on after an interrupted
 // call. What a file of the system holds and what its streams take is trusted: no clause tells it.
-ghost use Rattle.std.specs.Prelude.{◌≡◌, ◌+◌, ◌≤◌, ℕ, List, length, take, IfOk, IfErr, OnOk, OnErr};
+ghost use Rattle.std.specs.Prelude.{◌≡◌, ◌+◌, ◌≤◌, ℕ, List, false, length, take, IfOk, IfErr, OnOk, OnErr};
 ghost use Rattle.std.specs.Io.KnownBytes.{Keeps, Appends as Gains};
 ghost use Rattle.outside.specs.Faults.{one_more, FailsOnlyWhereRose};
 ghost use Rattle.outside.specs.Sink.{Appends, TakesPrefix};
 ghost use Rattle.outside.specs.Counted.{GainsPrefix, UntoldGave, untold_library, untold_sink};
-ghost use Rattle.outside.specs.Library.{CameTo, FetchCause};
+ghost use Rattle.outside.specs.Library.{AreBytes, CameTo, FetchCause};
 
 use crate::faults::Failed;
 use crate::libraries::{Fetch, Library};
@@ -78,6 +78,9 @@ impl<'a, R: Files> FileLibrary<'a, R> {
         let mut bytes = Vec::new(alloc);
         let mut piece = [0u8; PIECE];
         for _ in 0..u64::MAX {
+            if exceeds(bytes.as_slice(), most) {
+                return Ok(bytes);
+            }
             let left = most - bytes.len() as u64;
             let want = left.min(PIECE as u64 - 1) as usize + 1;
             match file.read(&mut piece[..want]) {
@@ -94,13 +97,18 @@ impl<'a, R: Files> FileLibrary<'a, R> {
                     }
                 }
             }
-            if bytes.len() as u64 > most {
-                return Ok(bytes);
-            }
         }
         self.faults = self.faults.saturating_add(1);
         Err(Fetch::Failed)
     }
+}
+
+/// Whether there are more bytes than asked for.
+fn exceeds(bytes: &[u8], most: u64) -> bool
+    ensures within { result ≡ false → length bytes.now ≤ most }
+    ensures are_bytes { AreBytes bytes.now }
+{
+    bytes.len() as u64 > most
 }
 
 impl<'a, R: Files> Library for FileLibrary<'a, R> {

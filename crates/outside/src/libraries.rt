@@ -47,7 +47,7 @@ pub trait Library {
     fn faults(&self) -> u64
         ensures { result ≡ (state self.now).faults };
 
-    // What a call gave is what the library holds, where it tells that.
+    // What a call gave are bytes, and what the library holds, where it tells that.
     ghost tells: { (old new : Self) (name : List ℕ) (most : ℕ) (fetched : Fetched)
         → gave old new name most fetched → Tells (state old) (state new) name most fetched };
 }

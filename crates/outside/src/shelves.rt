@@ -2,7 +2,7 @@
 ghost use Rattle.std.specs.Prelude.{◌≡◌, ◌+◌, ◌≤◌, length, map, take, find, IfOk, IfErr};
 ghost use Rattle.std.specs.Option.{option_copied};
 ghost use Rattle.std.specs.Str.{bytes_eq};
-ghost use Rattle.outside.specs.Library.{CameTo, FetchCause, Held};
+ghost use Rattle.outside.specs.Library.{AreBytes, CameTo, FetchCause, Held};
 ghost use Rattle.outside.specs.Shelf.{Answers, ShelfGave, after_call, answer, file_of, files_of, shelf_state};
 
 use crate::libraries::{Fetch, Library};
@@ -77,6 +77,7 @@ fn bytes_of<'a>(files: &'a [(Text, Vec<u8>)], name: &str) -> Option<&'a [u8]>
 /// The first `most + 1` bytes, or all where there are fewer.
 fn front_of(alloc: Global, bytes: &[u8], most: u64) -> Result<Vec<u8>, Fetch>
     ensures front { IfOk result (λ front. front.items ≡ take (most + 1) bytes.now) }
+    ensures bytes { IfOk result (λ front. AreBytes front.items) }
     ensures memory { IfErr result (λ e. e ≡ Fetch.NoMemory) }
 {
     let front = if (bytes.len() as u64) <= most {

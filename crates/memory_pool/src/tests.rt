@@ -97,7 +97,7 @@ fn hand_round(pool: &Pool, pass: &mut PoolPass, rounds: u32)
     }
 }
 
-// Writes at the end of the page.
+// Writes over the whole page.
 fn use_page(vessel: &mut Vessel)
     requires { vessel.old ≡ empty 1 }
     ensures { vessel.new.pages ≡ 1 }
@@ -105,7 +105,7 @@ fn use_page(vessel: &mut Vessel)
     if vessel.grow(1, 1).is_none() {
         return;
     }
-    vessel.store(65_528, 8, u64::MAX);
+    vessel.copy_in(0, &[0xFF; 65_536]);
 }
 
 // The berth, behind a run that used its page.

@@ -1,13 +1,7 @@
 //! Names by a table, and the places of their refusals. The program `body_table` reads the spellings of numbers.
 
-use crate::{Cursor, Fault};
+use crate::{Cursor, Fault, Refusal};
 use std::process::Abort;
-
-const CUT_SHORT: u8 = 1;
-
-const SPARE_BITS: u8 = 3;
-
-const NOT_UTF8: u8 = 4;
 
 // A window over all of a row's bytes.
 fn whole<'a>(rt: &impl Abort, bytes: &'a [u8]) -> Cursor<'a> {
@@ -24,8 +18,8 @@ fn expect_place(rt: &impl Abort, cursor: &Cursor<'_>, found: bool) {
     }
 }
 
-fn refused<T>(number: u8, place: u32) -> Result<T, Fault> {
-    Err(Fault { number, place })
+fn refused<T>(why: Refusal, place: u32) -> Result<T, Fault> {
+    Err(why.at(place))
 }
 
 #[test]
@@ -35,14 +29,17 @@ fn names(rt: HostRuntime) {
         (&[6, b'_', b's', b't', b'a', b'r', b't'], Ok((1, 6))),
         (&[0x82, 0x00, 0xC3, 0xA9], Ok((2, 2))),
         (&[4, 0xF0, 0x9D, 0x84, 0x9E], Ok((1, 4))),
-        (&[0x80], refused(CUT_SHORT, 1)),
-        (&[0xFF, 0xFF, 0xFF, 0xFF, 0x1F], refused(SPARE_BITS, 0)),
-        (&[3, b'a', b'b'], refused(CUT_SHORT, 3)),
-        (&[2, 0xC3, 0x28], refused(NOT_UTF8, 1)),
+        (&[0x80], refused(Refusal::CutShort, 1)),
+        (
+            &[0xFF, 0xFF, 0xFF, 0xFF, 0x1F],
+            refused(Refusal::LebSpare, 0),
+        ),
+        (&[3, b'a', b'b'], refused(Refusal::CutShort, 3)),
+        (&[2, 0xC3, 0x28], refused(Refusal::NotUtf8, 1)),
         // An overlong form, half of a surrogate pair and a character that the text cuts.
-        (&[0x82, 0x00, 0xC0, 0x80], refused(NOT_UTF8, 2)),
-        (&[3, 0xED, 0xA0, 0x80], refused(NOT_UTF8, 1)),
-        (&[1, 0xC3, 0xA9], refused(NOT_UTF8, 1)),
+        (&[0x82, 0x00, 0xC0, 0x80], refused(Refusal::NotUtf8, 2)),
+        (&[3, 0xED, 0xA0, 0x80], refused(Refusal::NotUtf8, 1)),
+        (&[1, 0xC3, 0xA9], refused(Refusal::NotUtf8, 1)),
     ];
     for (bytes, want) in rows {
         let mut cursor = whole(&rt, bytes);
@@ -59,12 +56,12 @@ fn windows(rt: HostRuntime) {
     assert_eq!(rt; cursor.byte(), Ok(0x05));
     assert_eq!(rt; cursor.u32_leb(), Ok(128));
     assert_eq!(rt; cursor.at(), 5);
-    assert_eq!(rt; cursor.take(3), refused(CUT_SHORT, 7));
+    assert_eq!(rt; cursor.take(3), refused(Refusal::CutShort, 7));
     assert_eq!(rt; cursor.take(1), Ok([0xAA].as_slice()));
-    assert_eq!(rt; cursor.s64_leb(), refused(CUT_SHORT, 7));
+    assert_eq!(rt; cursor.s64_leb(), refused(Refusal::CutShort, 7));
     assert_eq!(rt; cursor.byte(), Ok(0x80));
     assert!(rt; cursor.is_at_end());
-    assert_eq!(rt; cursor.byte(), refused(CUT_SHORT, 7));
-    assert_eq!(rt; cursor.name(), refused(CUT_SHORT, 7));
+    assert_eq!(rt; cursor.byte(), refused(Refusal::CutShort, 7));
+    assert_eq!(rt; cursor.name(), refused(Refusal::CutShort, 7));
     assert_eq!(rt; cursor.at(), 7);
 }

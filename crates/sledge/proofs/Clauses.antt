@@ -4,12 +4,12 @@ use Rattle.outside.specs.Faults.{Rose}
 use Rattle.outside.specs.Library.{Files, LibraryState}
 use Rattle.outside.specs.Sink.{SinkState}
 use Rattle.sledge.proofs.Checks.{plan_steady}
-use Rattle.sledge.proofs.Walking.{Failed, Giving, IsOfFiles, Lawful, walk_of_files, walk_over, walk_untold}
+use Rattle.sledge.proofs.Walking.{Failed, Giving, IsOfFiles, Lawful, walk_bytes, walk_of_files, walk_over, walk_untold}
 use Rattle.sledge.specs.CommandLine.{Asked}
 use Rattle.sledge.specs.Commands.{plan_of}
 use Rattle.sledge.specs.Delivery.{Leaves, Took, WroteInPart}
 use Rattle.sledge.specs.Endings.{Done, Ended, Refuses, note_of, out_of_memory, status_of, text_of}
-use Rattle.sledge.specs.Plans.{Walks, over}
+use Rattle.sledge.specs.Plans.{ReadsBytes, Walks, over}
 use Rattle.sledge.specs.Promises.{Refused, WriteRose, Yields}
 use Rattle.sledge.specs.declared.status.Status.{Status}
 use Rattle.sledge.specs.declared.status.Status.TheVariants as status
@@ -69,6 +69,18 @@ took state gave tells files asked old new e result out out' notes notes' holds (
       | inr failed ↦ let same = s ∙ failed.0 in cc
     ]
 
+bytes_read : {L : Type 0} (state : L → LibraryState) (gave : Giving L) → Lawful state gave → (files : Files) (asked : Option Asked) (old new : L) (e : Ended) (result : Status) (out out' notes notes' : SinkState)
+    → (state old).held ≡ Some files → Reached gave asked old new e → Leaves e result out out' notes notes'
+    → result ≡ status.Ok → ReadsBytes files (plan_of asked)
+bytes_read state gave tells files asked old new e result out out' notes notes' holds reached (inr (s, w)) done = cc
+bytes_read state gave tells files asked old new e result out out' notes notes' holds (inr m) (inl (s, w)) done = let same = s ∙ ap status_of m in cc
+bytes_read state gave tells files None old new e result out out' notes notes' holds (inl walk) (inl (s, w)) done = tt
+bytes_read state gave tells files (Some asked) old new e result out out' notes notes' holds (inl walk) (inl (s, w)) done =
+    elim (walk_bytes state gave tells files (plan_of (Some asked)) old new e (plan_steady asked) holds walk) [
+      | inl reads ↦ reads
+      | inr bad ↦ let same = s ∙ bad in cc
+    ]
+
 -- The clauses.
 
 pub leaves_exactly : {L : Type 0} (state : L → LibraryState) (gave : Giving L) → Lawful state gave → (held : Option Files) (asked : Option Asked) (old new : L) (e : Ended) (result : Status) (out out' notes notes' : SinkState)
@@ -84,6 +96,13 @@ pub leaves_done : {L : Type 0} (state : L → LibraryState) (gave : Giving L) �
 leaves_done state gave tells None asked old new e result out out' notes notes' holds reached leaves done = tt
 leaves_done state gave tells (Some files) asked old new e result out out' notes notes' holds reached leaves done =
     took state gave tells files asked old new e result out out' notes notes' holds reached leaves done
+
+pub leaves_bytes : {L : Type 0} (state : L → LibraryState) (gave : Giving L) → Lawful state gave → (held : Option Files) (asked : Option Asked) (old new : L) (e : Ended) (result : Status) (out out' notes notes' : SinkState)
+    → (state old).held ≡ held → Reached gave asked old new e → Leaves e result out out' notes notes'
+    → result ≡ status.Ok → IfSome held (λ files. ReadsBytes files (plan_of asked))
+leaves_bytes state gave tells None asked old new e result out out' notes notes' holds reached leaves done = tt
+leaves_bytes state gave tells (Some files) asked old new e result out out' notes notes' holds reached leaves done =
+    bytes_read state gave tells files asked old new e result out out' notes notes' holds reached leaves done
 
 pub leaves_usage : {L : Type 0} (gave : Giving L) (asked : Option Asked) (old new : L) (e : Ended) (result : Status) (out out' notes notes' : SinkState)
     → Reached gave asked old new e → Leaves e result out out' notes notes' → result ≡ status.Usage → asked ≡ None

@@ -1,3 +1,4 @@
+pub mod BytesRead
 pub mod CheckLaws
 pub mod CheckWalks
 pub mod Checks

@@ -202,3 +202,12 @@ read_by_limit tenants bytes records are false short is = read_by_magic tenants b
 pub read_is : (tenants : ℕ) (bytes : List ℕ) (records : List Record) → AreBytes bytes → recording_of tenants bytes ≡ Ok records → Recorded tenants bytes records
 read_is tenants bytes records are is =
     read_by_limit tenants bytes records are (nat_lt most_bytes (length bytes)) refl (sym (limited_read tenants bytes (nat_lt most_bytes (length bytes)) refl) ∙ is)
+
+fits_by_limit : (tenants : ℕ) (bytes : List ℕ) (records : List Record) → (b : Bool) → nat_lt most_bytes (length bytes) ≡ b → within_limit tenants bytes b ≡ Ok records → length bytes ≤ most_bytes
+fits_by_limit tenants bytes records true long is = absurd cc
+fits_by_limit tenants bytes records false short is = fits_limit most_bytes (length bytes) short
+
+-- what is a recording is not too long
+pub accepted_fits : (tenants : ℕ) (bytes : List ℕ) (records : List Record) → recording_of tenants bytes ≡ Ok records → length bytes ≤ most_bytes
+accepted_fits tenants bytes records is =
+    fits_by_limit tenants bytes records (nat_lt most_bytes (length bytes)) refl (sym (limited_read tenants bytes (nat_lt most_bytes (length bytes)) refl) ∙ is)

@@ -10,7 +10,6 @@ use Rattle.recording_format.specs.declared.refusals.Refusal.{Refusal}
 use Rattle.recorded_arrivals.specs.Limits.{has_too_many}
 use Rattle.sledge.proofs.CheckLaws.{IsOver, IsReady, Prepared, prepared, ready_ends}
 use Rattle.sledge.proofs.Checks.{recording_checked}
-use Rattle.sledge.proofs.RecordingLaws.{read_is}
 use Rattle.sledge.specs.CheckPlans.{check_plan, config_plan, counted}
 use Rattle.sledge.specs.CommandLine.{Asked, AsksReplay, ReplayWords, command_of}
 use Rattle.sledge.specs.Commands.{ending, plan_of}
@@ -75,7 +74,7 @@ complete words files r c programs file records is h held read few = record {
   records = records;
   files_are = record {
     ready = h;
-    recorded = record { file = file; holds = held; accepted = read; spelt = λ are. read_is (length c.tenants) file records are read };
+    recorded = record { file = file; holds = held; accepted = read };
     few = few;
   };
   ends = recorded words files r c programs file records false is h held read few;

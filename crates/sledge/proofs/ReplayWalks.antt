@@ -19,15 +19,16 @@ use Rattle.recorded_runner.specs.ReplayText.{replay_text}
 use Rattle.recorded_runner.specs.Serving.{AreOwned, IsOwned, IsPlayed}
 use Rattle.recorded_runner.specs.declared.played.Played.{Played}
 use Rattle.recorded_runner.specs.declared.played.Summary.{Summary}
+use Rattle.sledge.proofs.BytesRead.{ready_read, recording_spelt}
 use Rattle.sledge.proofs.Checks.{recording_checked}
 use Rattle.sledge.proofs.RecordingLaws.{recorded_is, refused_is}
 use Rattle.sledge.proofs.ReplayLaws.{done_is_answered}
 use Rattle.sledge.proofs.Walking.{Giving, comes_end, comes_given}
-use Rattle.sledge.specs.CommandLine.{AsksReplay, ReplayWords, command_of}
+use Rattle.sledge.specs.CommandLine.{Asked, AsksReplay, ReplayWords, command_of}
 use Rattle.sledge.specs.Commands.{ending, plan_of}
 use Rattle.sledge.specs.Delivery.{Took}
 use Rattle.sledge.specs.Endings.{Done, Due, Ended, due, recording_fault, status_of}
-use Rattle.sledge.specs.Plans.{Comes, Ends, Goes, Plan, Step, Stops, found, go_on, over}
+use Rattle.sledge.specs.Plans.{Comes, Ends, Goes, Plan, ReadsBytes, Step, Stops, found, go_on, over}
 use Rattle.sledge.specs.Promises.{Yields}
 use Rattle.sledge.specs.ReplayPlans.{check_recording, recording_end, recording_limit, recording_plan, replayed, summary_line, unless_too_many}
 use Rattle.sledge.specs.Replays.{AnswersReplay, WritesReplay}
@@ -94,15 +95,28 @@ status_is planned result lib lib' out out' notes notes' (inr (inl memory)) is = 
 status_is planned result lib lib' out out' notes notes' (inr (inr (inl written))) is = let other = written.0 in cc
 status_is planned result lib lib' out out' notes notes' (inr (inr (inr read))) is = let other = read.0 in cc
 
-writes : (words : List (List ℕ)) (files : Files) (r : ReplayWords) (out out' notes notes' : SinkState) → AnswersReplay r files (ending words files) → Took (ending words files) out out' notes notes' → WritesReplay r files out out' notes notes'
-writes words files r out out' notes notes' a took =
+writes : (words : List (List ℕ)) (files : Files) (r : ReplayWords) (out out' notes notes' : SinkState) → command_of words ≡ Some (AsksReplay r) → AnswersReplay r files (ending words files) → Took (ending words files) out out' notes notes'
+    → ReadsBytes files (plan_of (command_of words)) → WritesReplay r files out out' notes notes'
+writes words files r out out' notes notes' asks a took reads =
     let wrote = subst (λ (e : Ended). Took e out out' notes notes') a.ends took in
-    record { config = a.config; programs = a.programs; records = a.records; files_are = a.files_are; out_took = wrote.out_took; notes_took = wrote.notes_took }
+    let planned : ReadsBytes files (plan_of (Some (AsksReplay r))) = subst (λ (asked : Option Asked). ReadsBytes files (plan_of asked)) asks reads in
+    let ready = a.files_are.ready in
+    let behind = ready_read files r.config_name (recording_plan r.recording_name) a.config a.programs ready.held ready.served planned in
+    record {
+      config = a.config;
+      programs = a.programs;
+      records = a.records;
+      files_are = a.files_are;
+      spelt = recording_spelt files r.recording_name a.config a.programs a.records a.files_are.recorded behind.1;
+      answered = behind.0;
+      out_took = wrote.out_took;
+      notes_took = wrote.notes_took;
+    }
 
 pub writes_replay
     : (held : Option Files) (words : List (List ℕ)) (r : ReplayWords) (result : Status) (lib lib' : LibraryState) (out out' notes notes' : SinkState) → result ≡ status.Ok → command_of words ≡ Some (AsksReplay r)
     → IfSome held (λ files. Yields (status_of (over files (plan_of (command_of words)))) result lib lib' out out' notes notes') → IfSome held (λ files. Took (over files (plan_of (command_of words))) out out' notes notes')
-    → IfSome held (λ files. WritesReplay r files out out' notes notes')
-writes_replay None words r result lib lib' out out' notes notes' done asks yields took = tt
-writes_replay (Some files) words r result lib lib' out out' notes notes' done asks yields took =
-    writes words files r out out' notes notes' (done_is_answered words files r asks (status_is _ result lib lib' out out' notes notes' yields done)) took
+    → IfSome held (λ files. ReadsBytes files (plan_of (command_of words))) → IfSome held (λ files. WritesReplay r files out out' notes notes')
+writes_replay None words r result lib lib' out out' notes notes' done asks yields took reads = tt
+writes_replay (Some files) words r result lib lib' out out' notes notes' done asks yields took reads =
+    writes words files r out out' notes notes' asks (done_is_answered words files r asks (status_is _ result lib lib' out out' notes notes' yields done)) took reads

@@ -1,10 +1,10 @@
 -- Reads that are made one after another carry out a plan, and over a library that tells its files they come to the ending over them.
-use Rattle.std.proofs.Common.{◌≡◌, ◌⊎◌, inl, inr, ℕ, ◌+◌, ◌≤◌, List, take, Option, None, Some, refl, sym, ap, subst, ◌∙◌, arith}
+use Rattle.std.proofs.Common.{◌≡◌, ◌⊎◌, inl, inr, ℕ, ◌+◌, ◌≤◌, List, take, Option, None, Some, IfSome, refl, sym, ap, subst, ◌∙◌, arith}
 use Rattle.std.specs.Option.{option_map}
 use Rattle.outside.specs.Faults.{Rose}
-use Rattle.outside.specs.Library.{Fails, Fetched, Files, Gives, IsTold, LibraryState, Tells}
+use Rattle.outside.specs.Library.{AreBytes, Fails, Fetched, Files, Gives, IsTold, LibraryState, Tells}
 use Rattle.sledge.specs.Endings.{Due, Ended, due, not_read, status_of}
-use Rattle.sledge.specs.Plans.{Comes, Ends, Plan, Reads, Walks, over}
+use Rattle.sledge.specs.Plans.{Comes, Ends, Plan, Reads, ReadsBytes, Walks, over}
 use Rattle.sledge.specs.declared.status.Status.{Status}
 use Rattle.sledge.specs.declared.status.Status.TheVariants as status
 
@@ -105,6 +105,30 @@ walk_over state gave tells files (Reads name most next) old new e steady holds (
     elim (walk_over state gave tells files (next (Some bytes)) between new e (steady.2 bytes) (law.same ∙ holds) walk) [
       | inl same ↦ inl (same ∙ ap (over files) (goes_on_whole most next (files name) bytes steady.1 told))
       | inr failed ↦ inr (since e (state old) (state between) (state new) law.later failed)
+    ]
+
+-- what was given are bytes, and so as much of the held file is
+front_bytes : (most : ℕ) (file : Option (List ℕ)) (bytes : List ℕ) → option_map (take (most + 1)) file ≡ Some bytes → AreBytes bytes
+    → IfSome file (λ whole. AreBytes (take (most + 1) whole))
+front_bytes most None bytes told are = tt
+front_bytes most (Some whole) bytes told are =
+    let front : bytes ≡ take (most + 1) whole = cc in
+    subst (λ (x : List ℕ). AreBytes x) front are
+
+-- over a library that tells its files the files that a plan reads are bytes, unless one could not be read
+pub walk_bytes : {L : Type 0} (state : L → LibraryState) (gave : Giving L) → Lawful state gave → (files : Files) (plan : Plan) (old new : L) (e : Ended)
+    → IsSteady plan → (state old).held ≡ Some files → Walks gave plan old new e → ReadsBytes files plan ⊎ (status_of e ≡ status.ReadFault)
+walk_bytes state gave tells files (Ends planned) old new e steady holds walk = inl tt
+walk_bytes state gave tells files (Reads name most next) old new e steady holds (inl fails) = inr (ap status_of fails.1)
+walk_bytes state gave tells files (Reads name most next) old new e steady holds (inr (between, None, given, walk)) =
+    let ends = subst (λ plan. Walks gave plan between new e) steady.0 walk in
+    inr (ap status_of ends.0)
+walk_bytes state gave tells files (Reads name most next) old new e steady holds (inr (between, Some bytes, given, walk)) =
+    let law = tells old between name most (Gives (Some bytes)) given in
+    let told : option_map (take (most + 1)) (files name) ≡ Some bytes = subst (λ held. IsTold held name most (state old).faults (state between).faults (Gives (Some bytes))) holds law.told in
+    elim (walk_bytes state gave tells files (next (Some bytes)) between new e (steady.2 bytes) (law.same ∙ holds) walk) [
+      | inl rest ↦ inl (front_bytes most (files name) bytes told law.bytes, subst (ReadsBytes files) (goes_on_whole most next (files name) bytes steady.1 told) rest)
+      | inr bad ↦ inr bad
     ]
 
 -- over a library that tells nothing a plan comes to a read fault only where a read failed

@@ -1,6 +1,6 @@
 -- What a command reads, in which order, and how it ends by what it has read.
-use Rattle.std.specs.Prelude.{◌≡◌, ◌⊎◌, ℕ, suc, nat_lt, if◌then◌else◌, List, [], ◌∷◌, length, Option, None, Some}
-use Rattle.outside.specs.Library.{Fails, Fetched, Files, Gives}
+use Rattle.std.specs.Prelude.{◌≡◌, ◌⊎◌, ℕ, suc, nat_lt, if◌then◌else◌, ◌+◌, List, [], ◌∷◌, length, take, Option, None, Some, IfSome}
+use Rattle.outside.specs.Library.{AreBytes, Fails, Fetched, Files, Gives}
 use Rattle.sledge.specs.Endings.{Due, Ended, due, not_read}
 
 -- a plan: an ending; or the name of a file, the most bytes that it may have, and what follows for its bytes or for none
@@ -12,6 +12,13 @@ pub data Plan : Type 0 where
 abbrev pub over : Files → Plan → Ended
 over files (Ends e) = e
 over files (Reads name most next) = over files (next (files name))
+
+-- The files that the plan reads of these, up to its end, are bytes: all of a file that is no longer than it may be, and
+-- else as much as shows that it is longer.
+abbrev pub ReadsBytes : Files → Plan → Type 0
+ReadsBytes files (Ends e) = Unit {0}
+ReadsBytes files (Reads name most next) =
+    IfSome (files name) (λ file. AreBytes (take (most + 1) file)) × ReadsBytes files (next (files name))
 
 -- The parts that plans are made of.
 

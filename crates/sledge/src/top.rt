@@ -6,7 +6,7 @@ ghost use Rattle.sledge.specs.CommandLine.{AsksReplay, ReplayWords, command_of};
 ghost use Rattle.sledge.specs.Commands.{ending, plan_for};
 ghost use Rattle.sledge.specs.Endings.{Ended, out_of_memory, status_of};
 ghost use Rattle.sledge.specs.Delivery.{Leaves, Took};
-ghost use Rattle.sledge.specs.Plans.{Walks};
+ghost use Rattle.sledge.specs.Plans.{ReadsBytes, Walks};
 ghost use Rattle.sledge.specs.Promises.{Refused, WriteRose, Yields};
 ghost use Rattle.sledge.specs.Replays.{WritesReplay};
 
@@ -55,6 +55,10 @@ pub fn run<R: Threads + Sync, L: Library, S: Sink, N: Sink, G: Gate>(
     ensures done { result ≡ Status.Ok → IfSome (L.state lib.old).held (λ files.
         Took (ending (map string_bytes words.now) files)
         (S.state out.old) (S.state out.new) (N.state notes.old) (N.state notes.new)) }
+
+    // And the files that were read, which are those of the plan, are bytes.
+    ensures bytes { result ≡ Status.Ok → IfSome (L.state lib.old).held (λ files.
+        ReadsBytes files (plan_for (map string_bytes words.now))) }
 
     // Over any library: what a status says.
     ensures refused { result ≢ Status.Ok → result ≢ Status.WriteFault

@@ -1,5 +1,5 @@
 use Rattle.std.proofs.Common.{map, refl, string_bytes}
-use Rattle.sledge.proofs.Clauses.{leaves_done, leaves_exactly, leaves_no_server, leaves_read_fault, leaves_refused, leaves_usage, leaves_write_fault}
+use Rattle.sledge.proofs.Clauses.{leaves_bytes, leaves_done, leaves_exactly, leaves_no_server, leaves_read_fault, leaves_refused, leaves_usage, leaves_write_fault}
 use Rattle.sledge.proofs.ReplayWalks.{writes_replay}
 use Rattle.sledge.specs.CommandLine.{command_of}
 use Rattle.sledge.proofs.top.run.Goals as goal
@@ -12,6 +12,11 @@ returns-clause-exactly g c =
 pub returns-clause-done : goal.returns-clause-done
 returns-clause-done g c =
     λ done. leaves_done g.L.Library.state g.L.Library.gave g.met.L.Library.tells _ (command_of (map string_bytes c.args.words.now)) _ _ c.carry_out.ensures.ended.0 _ _ _ _ _ refl
+    c.carry_out.ensures.ended.1 c.carry_out.ensures.ended.2 done
+
+pub returns-clause-bytes : goal.returns-clause-bytes
+returns-clause-bytes g c =
+    λ done. leaves_bytes g.L.Library.state g.L.Library.gave g.met.L.Library.tells _ (command_of (map string_bytes c.args.words.now)) _ _ c.carry_out.ensures.ended.0 _ _ _ _ _ refl
     c.carry_out.ensures.ended.1 c.carry_out.ensures.ended.2 done
 
 pub returns-clause-refused : goal.returns-clause-refused
@@ -42,4 +47,6 @@ returns-clause-replay g c =
     (leaves_exactly g.L.Library.state g.L.Library.gave g.met.L.Library.tells _ (command_of (map string_bytes c.args.words.now)) _ _ c.carry_out.ensures.ended.0 _ _ _ _ _ refl
     c.carry_out.ensures.ended.1 c.carry_out.ensures.ended.2)
     (leaves_done g.L.Library.state g.L.Library.gave g.met.L.Library.tells _ (command_of (map string_bytes c.args.words.now)) _ _ c.carry_out.ensures.ended.0 _ _ _ _ _ refl
+    c.carry_out.ensures.ended.1 c.carry_out.ensures.ended.2 done)
+    (leaves_bytes g.L.Library.state g.L.Library.gave g.met.L.Library.tells _ (command_of (map string_bytes c.args.words.now)) _ _ c.carry_out.ensures.ended.0 _ _ _ _ _ refl
     c.carry_out.ensures.ended.1 c.carry_out.ensures.ended.2 done)

@@ -23,7 +23,7 @@ ghost use Rattle.sledge.specs.Promises.{AnswersCheck, AreServed, ComesBehind, Ho
 ghost use Rattle.sledge.specs.declared.status.Status.TheVariants.{Ok as IsDone};
 
 /// How a `check` ends over files, by what the configuration's file is and what the modules' files
-/// spell. One of the cases holds of any files, so there is no other ending.
+/// spell.
 pub fn check_endings()
     // The configuration's file is missing, or refused by its first fault. What the modules' files
     // are does not matter.

@@ -28,8 +28,7 @@ pub fn shown_endings()
         → command_of words ≡ Some AsksVersion → ending words files ≡ shown version_text }
 {}
 
-/// How an `invoke` ends over files, by what their bytes spell. One of the cases holds of any files,
-/// so there is no other ending.
+/// How an `invoke` ends over files, by what their bytes spell.
 pub fn invoke_endings()
     // The module's file is missing; it is refused by its first fault; it spells a module that
     // breaks a rule; it spells a valid one that is not linked. What the body's file is does not matter.

@@ -21,7 +21,7 @@ ghost use Rattle.sledge.specs.ReplayPlans.{replayed};
 ghost use Rattle.sledge.specs.Replays.{AnswersReplay, HoldsRecording, Ready};
 ghost use Rattle.sledge.specs.declared.status.Status.TheVariants.{Ok as IsDone};
 
-/// How a `replay` ends over files. One of the cases holds of any files, so there is no other ending.
+/// How a `replay` ends over files.
 pub fn replay_endings()
     // The configuration or one of its modules is not accepted, and it ends as a `check` of it does.
     ensures not_ready { (words : List (List ℕ)) (files : Files) (r : ReplayWords)

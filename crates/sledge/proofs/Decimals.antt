@@ -6,7 +6,7 @@ use Rattle.std.specs.Char.{is_ascii_digit}
 use Rattle.std.specs.List.{list_all}
 use Rattle.std.specs.Result.{result_ok}
 use Rattle.std.specs.Str.Parse.{ParsesUnsigned, digits_value}
-use Rattle.sledge.specs.CommandLine.{budget_of, is_decimal, number_within, within}
+use Rattle.sledge.specs.CommandLine.{is_decimal, number_within, within}
 
 own : IsNumeralModel (λ ds. list_all is_ascii_digit ds ≡ true) (digits_value 10)
 own = numerals_by_value _ (search rules)
@@ -21,23 +21,7 @@ tests_told false b c h = cc
 is_positive : (n : ℕ) → nat_lt 0 n ≡ true → 0 < n
 is_positive n h = grind (arith, nat_tests)
 
-is_great : (n : ℕ) → ¬ (n < 2 ^ 64) → nat_le n (2 ^ 40) ≡ false
-is_great n h = grind (arith, nat_tests)
-
-none_of_false : (a b : Bool) (n : ℕ) → b ≡ false → cond (a && b) (Some n) None ≡ None
-none_of_false true true n e = cc
-none_of_false true false n e = refl
-none_of_false false b n e = refl
-
--- a word of digits that `parse` refuses writes a number that is too great for a budget
-pub refused_is_great : {E : Type 0} (word : List ℕ) (r : Result ℕ E) → ParsesUnsigned 64 10 word r → is_decimal word ≡ true → result_ok r ≡ None → budget_of word ≡ None
-refused_is_great word (Ok x) h d e = cc
-refused_is_great word (Err x) h d e =
-    let t = tests_told (nat_lt 0 (length word)) (nat_le (length word) 20) (list_all is_ascii_digit word) d in
-    let n : ¬ ((0 < length word) × (digits_value 10 word < 2 ^ 64)) = parse_digits own 64 word (Err x) h t.1 in
-    none_of_false (is_decimal word) _ _ (is_great (digits_value 10 word) (λ small. n (is_positive (length word) t.0, small)))
-
--- nor is it in a range of numbers that `parse` reads
+-- a word of digits that `parse` refuses writes a number that is in no range of numbers that it reads
 
 is_beyond : (most n : ℕ) → most < 2 ^ 64 → ¬ (n < 2 ^ 64) → nat_lt most n ≡ true
 is_beyond most n small h = grind (arith, nat_tests)

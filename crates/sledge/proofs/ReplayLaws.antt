@@ -7,7 +7,7 @@ use Rattle.serve_config.specs.Routing.{all_routes}
 use Rattle.recording_format.specs.Refusals.{number_of}
 use Rattle.recording_format.specs.declared.records.Record.{Record}
 use Rattle.recording_format.specs.declared.refusals.Refusal.{Refusal}
-use Rattle.recorded_arrivals.specs.Limits.{has_too_many}
+use Rattle.recorded_arrivals.specs.Limits.{has_too_many, too_many_requests}
 use Rattle.sledge.proofs.CheckLaws.{IsOver, IsReady, Prepared, prepared, ready_ends}
 use Rattle.sledge.proofs.Checks.{recording_checked}
 use Rattle.sledge.specs.CheckPlans.{check_plan, config_plan, counted}
@@ -63,7 +63,7 @@ recorded words files r c programs file records many is h held read counts =
     ∙ ap (λ (b : Bool). unless_too_many b c programs records) counts
 
 pub too_many : (words : List (List ℕ)) (files : Files) (r : ReplayWords) (c : Configuration) (programs : List Program) (file : List ℕ) (records : List Record) → command_of words ≡ Some (AsksReplay r) → Ready r files c programs
-    → files r.recording_name ≡ Some file → recording_of (length c.tenants) file ≡ Ok records → has_too_many records ≡ true → ending words files ≡ recording_fault 77
+    → files r.recording_name ≡ Some file → recording_of (length c.tenants) file ≡ Ok records → has_too_many records ≡ true → ending words files ≡ recording_fault too_many_requests
 too_many words files r c programs file records is h held read counts = recorded words files r c programs file records true is h held read counts
 
 pub complete : (words : List (List ℕ)) (files : Files) (r : ReplayWords) (c : Configuration) (programs : List Program) (file : List ℕ) (records : List Record) → command_of words ≡ Some (AsksReplay r) → Ready r files c programs

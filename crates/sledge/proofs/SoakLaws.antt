@@ -6,7 +6,7 @@ use Rattle.wasm_meaning.specs.Programs.{Program}
 use Rattle.serve_config.specs.Loading.{Unloaded}
 use Rattle.generated_load.specs.Configuration.{soak_configuration}
 use Rattle.generated_load.specs.Recording.{soak_records}
-use Rattle.recorded_arrivals.specs.Limits.{has_too_many}
+use Rattle.recorded_arrivals.specs.Limits.{has_too_many, too_many_requests}
 use Rattle.recorded_runner.specs.Summaries.{summary_of}
 use Rattle.sledge.specs.CommandLine.{Asked, AsksSoak, SoakWords, command_of}
 use Rattle.sledge.specs.Commands.{ending, plan_of}
@@ -34,7 +34,7 @@ unless s many is = ap (λ (b : Bool). summed_unless b soak_configuration soak_lo
 pub complete : (words : List (List ℕ)) (files : Files) (s : SoakWords) → command_of words ≡ Some (AsksSoak s) → has_too_many (soak_records s.start s.count) ≡ false → ending words files ≡ line_of s
 complete words files s is few = asks words files s is ∙ unless s false few
 
-pub too_many : (words : List (List ℕ)) (files : Files) (s : SoakWords) → command_of words ≡ Some (AsksSoak s) → has_too_many (soak_records s.start s.count) ≡ true → ending words files ≡ recording_fault 77
+pub too_many : (words : List (List ℕ)) (files : Files) (s : SoakWords) → command_of words ≡ Some (AsksSoak s) → has_too_many (soak_records s.start s.count) ≡ true → ending words files ≡ recording_fault too_many_requests
 too_many words files s is many = asks words files s is ∙ unless s true many
 
 pub answered : (words : List (List ℕ)) (files : Files) (s : SoakWords) → command_of words ≡ Some (AsksSoak s) → status_of (ending words files) ≡ status.Ok → ending words files ≡ line_of s

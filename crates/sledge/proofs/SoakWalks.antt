@@ -9,7 +9,7 @@ use Rattle.serve_config.specs.Loading.{Unloaded}
 use Rattle.recording_format.specs.declared.records.Event.{Event}
 use Rattle.recording_format.specs.declared.records.Event.TheVariants.{Begins, Arrives, Closes}
 use Rattle.recording_format.specs.declared.records.Record.{Record}
-use Rattle.recorded_arrivals.specs.Limits.{has_too_many}
+use Rattle.recorded_arrivals.specs.Limits.{has_too_many, too_many_requests}
 use Rattle.recorded_runner.specs.Serving.{AreOwned, AreProgramsOf, IsOwned}
 use Rattle.recorded_runner.specs.Summaries.{summary_of}
 use Rattle.recorded_runner.specs.declared.played.Summary.{Summary}
@@ -46,6 +46,6 @@ summed_ends config programs records summary e few is ends =
 
 -- and of one that has too many items
 pub many_ends : (config : Configuration) (programs : List Program) (records : List Record) (number : ℕ) (e : Due)
-    → number ≡ 77 → has_too_many records ≡ true → e ≡ due (recording_fault number) → e ≡ due (summed config programs records)
+    → number ≡ too_many_requests → has_too_many records ≡ true → e ≡ due (recording_fault number) → e ≡ due (summed config programs records)
 many_ends config programs records number e is many ends =
     ends ∙ (ap (λ (n : ℕ). due (recording_fault n)) is ∙ ap (λ b. due (summed_unless b config programs records)) (sym many))

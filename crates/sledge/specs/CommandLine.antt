@@ -40,10 +40,6 @@ pub data Asked : Type 0 where
 abbrev pub is_decimal : List ℕ → Bool
 is_decimal digits = nat_lt 0 (length digits) && nat_le (length digits) 20 && list_all is_ascii_digit digits
 
--- a number among the words: one to twenty decimal digits, of a value that is at most 2^40
-abbrev pub budget_of : List ℕ → Option ℕ
-budget_of digits = if is_decimal digits && nat_le (digits_value 10 digits) (2 ^ 40) then Some (digits_value 10 digits) else None
-
 -- a value in this range, the ends among it
 abbrev pub within : (least most value : ℕ) → Option ℕ
 within least most value = if nat_lt value least then None else (if nat_lt most value then None else Some value)
@@ -81,7 +77,7 @@ three_words word first second =
 abbrev pub four_words : List ℕ → List ℕ → List ℕ → List ℕ → Option Asked
 four_words word name body digits =
     if bytes_eq word (codes "invoke")
-    then option_map (λ budget. AsksInvoke (record { module_name = name; body_name = body; budget = budget })) (budget_of digits)
+    then option_map (λ budget. AsksInvoke (record { module_name = name; body_name = body; budget = budget })) (number_within 0 (2 ^ 40) digits)
     else None
 
 -- what these words ask for, or none where they have none of the shapes

@@ -2,8 +2,9 @@
 use Rattle.std.specs.Prelude.{ℕ, List, Option, None, Some}
 use Rattle.outside.specs.Library.{Files}
 use Rattle.wasm_meaning.specs.Programs.{Program}
-use Rattle.wasm_meaning.specs.Requests.{Request, Verdict, BudgetSpent, units, verdict}
+use Rattle.wasm_meaning.specs.Requests.{Request, units, verdict}
 use Rattle.wasm_reader.specs.Modules.{most_bytes}
+use Rattle.recorded_runner.specs.Replies.{reported_of}
 use Rattle.sledge.specs.Accepted.{given_pages}
 use Rattle.sledge.specs.CheckPlans.{check_plan}
 use Rattle.sledge.specs.CommandLine.{Asked, AsksHelp, AsksVersion, AsksInvoke, AsksCheck, AsksReplay, AsksSoak, InvokeWords, command_of}
@@ -30,14 +31,9 @@ check_body bytes = limited body_limit (recording_fault 76) (λ body. Goes body) 
 abbrev pub request_of : Program → (budget : ℕ) → (body : List ℕ) → Request
 request_of program budget body = record { program = program; body = body; budget = budget }
 
--- each request to a program has a verdict; one that had none would end as if its budget were spent
-abbrev pub told : Option Verdict → Verdict
-told (Some found) = found
-told None = BudgetSpent
-
--- the verdict of a request, and its units
+-- the reply reports the verdict of the request, and the note its units
 abbrev pub ran : Request → Ended
-ran request = answered (told (verdict request)) (units request)
+ran request = answered (reported_of (verdict request)) (units request)
 
 -- `invoke` from its body on
 abbrev pub body_plan : InvokeWords → Program → Plan

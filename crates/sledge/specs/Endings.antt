@@ -1,9 +1,7 @@
 -- How a command ends: its status, what is due on the output, and what is due on the notes.
-use Rattle.std.specs.Prelude.{ℕ, ◌==◌, Bool, false, true, List, [], ◌++◌, codes, decimal}
-use Rattle.wasm_ops.specs.Traps.{trap_text}
-use Rattle.http_front.specs.Reported.{Reported, Replied, Exited, Trapped, OutOfBudget}
+use Rattle.std.specs.Prelude.{ℕ, false, true, List, [], ◌++◌, codes, decimal}
+use Rattle.http_front.specs.Reported.{Reported}
 use Rattle.http_front.specs.Reply.{reply_of}
-use Rattle.wasm_meaning.specs.Requests as request
 use Rattle.sledge.specs.Texts.{line, octet_stream}
 use Rattle.sledge.specs.declared.status.Status.{Status}
 use Rattle.sledge.specs.declared.status.Status.TheVariants as status
@@ -65,19 +63,7 @@ out_of_memory = Refuses status.NoMemory (codes "memory")
 abbrev pub shown : (text : List ℕ) → Ended
 shown text = Done text []
 
--- a program that ends itself with code 0 has replied
-abbrev pub reported_exit : (is_zero : Bool) → (code : ℕ) → (reply : List ℕ) → Reported
-reported_exit true code reply = Replied reply
-reported_exit false code reply = Exited code
-
--- what the reply reports of a verdict
-abbrev pub reported_verdict : request.Verdict → Reported
-reported_verdict (request.Replied reply) = Replied reply
-reported_verdict (request.Exit code reply) = reported_exit (code == 0) code reply
-reported_verdict (request.Trap why) = Trapped (trap_text why)
-reported_verdict request.BudgetSpent = OutOfBudget
-
--- the reply to a kept GET, and the units that the run cost
-abbrev pub answered : request.Verdict → (units : ℕ) → Ended
-answered verdict units =
-    Done (reply_of (reported_verdict verdict) octet_stream false true) (line (codes "units " ++ decimal units))
+-- the reply to a kept GET, with what it reports, and the units that the run cost
+abbrev pub answered : Reported → (units : ℕ) → Ended
+answered reported units =
+    Done (reply_of reported octet_stream false true) (line (codes "units " ++ decimal units))

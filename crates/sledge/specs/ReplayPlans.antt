@@ -5,7 +5,7 @@ use Rattle.serve_config.specs.Configuration.{Configuration}
 use Rattle.recording_format.specs.declared.records.Record.{Record}
 use Rattle.recording_format.specs.declared.refusals.Refusal.{Refusal}
 use Rattle.recording_format.specs.Refusals.{number_of}
-use Rattle.recorded_arrivals.specs.Limits.{has_too_many}
+use Rattle.recorded_arrivals.specs.Limits.{has_too_many, too_many_requests}
 use Rattle.recorded_runner.specs.ReplayText.{replay_text}
 use Rattle.recorded_runner.specs.Summaries.{summary_of}
 use Rattle.recorded_runner.specs.declared.played.Summary.{Summary}
@@ -39,7 +39,7 @@ summary_line s = line (summary_counts s ++ codes " turns " ++ decimal s.turns ++
 
 -- there are too many items; or the text and the summary of the replay
 abbrev pub unless_too_many : Bool → Configuration → List Program → List Record → Ended
-unless_too_many true config programs records = recording_fault 77
+unless_too_many true config programs records = recording_fault too_many_requests
 unless_too_many false config programs records = Done (replay_text config programs records) (summary_line (summary_of config programs records))
 
 abbrev pub replayed : Configuration → List Program → List Record → Ended

@@ -5,7 +5,7 @@ use Rattle.serve_config.specs.Configuration.{Configuration}
 use Rattle.serve_config.specs.Loading.{Unloaded, loaded}
 use Rattle.serve_config.specs.Routing.{all_routes}
 use Rattle.recording_format.specs.declared.records.Record.{Record}
-use Rattle.recorded_arrivals.specs.Limits.{has_too_many}
+use Rattle.recorded_arrivals.specs.Limits.{has_too_many, too_many_requests}
 use Rattle.recorded_runner.specs.Summaries.{summary_of}
 use Rattle.generated_load.specs.Configuration.{soak_configuration}
 use Rattle.generated_load.specs.Modules.{soak_files}
@@ -26,7 +26,7 @@ soak_loaded = all_loaded (loaded soak_files 0 (all_routes soak_configuration.ten
 
 -- there are too many items, or the line of the summary
 abbrev pub summed_unless : (too_many : Bool) → Configuration → List Program → List Record → Ended
-summed_unless true config programs records = recording_fault 77
+summed_unless true config programs records = recording_fault too_many_requests
 summed_unless false config programs records = shown (summary_line (summary_of config programs records))
 
 abbrev pub summed : Configuration → List Program → List Record → Ended

@@ -5,7 +5,7 @@ ghost use Rattle.std.specs.Char.{is_ascii_digit};
 ghost use Rattle.std.specs.List.{list_all};
 ghost use Rattle.std.specs.Option.{option_map};
 ghost use Rattle.std.specs.String.{string_bytes};
-ghost use Rattle.sledge.specs.CommandLine.{command_of, budget_of, is_decimal, number_within, lone_word, two_words, three_words, soak_words, command_view, IsWithin};
+ghost use Rattle.sledge.specs.CommandLine.{command_of, is_decimal, number_within, lone_word, two_words, three_words, soak_words, command_view, IsWithin};
 
 /// The most operators that an `invoke` may be given to spend.
 const GREATEST_BUDGET: u64 = 1 << 40;
@@ -76,7 +76,7 @@ impl<'a> Command<'a> {
                 if word.as_str() != "invoke" {
                     return None;
                 }
-                let budget = budget_of(budget.as_str())?;
+                let budget = number_within(budget.as_str(), 0, GREATEST_BUDGET)?;
                 Some(Command::Invoke(Invoke {
                     module_name: module.as_str(),
                     body_name: body.as_str(),
@@ -161,22 +161,6 @@ fn number_within(word: &str, least: u64, most: u64) -> Option<u64>
         return None;
     }
     Some(number)
-}
-
-/// The number that 1 to 20 decimal digits write, where it is at most 2^40.
-fn budget_of(word: &str) -> Option<u64>
-    ensures value { result ≡ budget_of word.now }
-    ensures within { IfSome result (λ budget. budget ≤ 2 ^ 40) }
-{
-    if !is_decimal(word.as_bytes()) {
-        return None;
-    }
-    let number = word.parse::<u64>().ok()?;
-    if number <= GREATEST_BUDGET {
-        Some(number)
-    } else {
-        None
-    }
 }
 
 /// Whether the bytes are 1 to 20 decimal digits. Leading zeros are digits like others.

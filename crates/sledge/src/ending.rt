@@ -1,17 +1,16 @@
 //! How a command ends: its status, the text for the output and the line for the notes.
 
 ghost use Rattle.std.specs.Prelude.{◌≡◌, IfOk, string_bytes};
-ghost use Rattle.sledge.specs.Endings.{Done, answered, config_fault, due, module_fault, not_read, recording_fault, reported_verdict, shown, usage};
+ghost use Rattle.sledge.specs.Endings.{Done, answered, config_fault, due, module_fault, not_read, recording_fault, shown, usage};
 ghost use Rattle.sledge.specs.CheckPlans.{counted, counts_line};
 ghost use Rattle.sledge.specs.ReplayPlans.{summary_counts, summary_line};
-ghost use Rattle.sandbox_states.specs.Views.{told};
-ghost use Rattle.http_front.specs.Reported.{IsOutcome, reported};
+ghost use Rattle.recorded_runner.specs.Replies.{reported_verdict};
 
 use crate::status::Status;
 use crate::texts::OCTET_STREAM;
-use http_front::{Outcome, reply_text};
-use recorded_runner::{Played, Summary};
-use sandbox_states::{Answer, Verdict};
+use http_front::reply_text;
+use recorded_runner::{Played, Summary, outcome};
+use sandbox_states::Answer;
 use serve_config::Config;
 use std::alloc::{AllocError, Global};
 use std::marker::Model;
@@ -144,7 +143,8 @@ impl Ending {
 
     /// A recording was replayed: the text of the replies, and the line of the summary.
     pub fn replayed(alloc: Global, played: Played) -> Result<Ending, AllocError>
-        ensures { IfOk result (λ e. e ≡ due (Done played.text.items (summary_line played.summary))) }
+        ensures { IfOk result (λ e. e ≡ due
+            (Done played.text.items (summary_line played.summary))) }
     {
         let Played { text, summary } = played;
         Ok(Ending {
@@ -164,18 +164,13 @@ impl Ending {
 
     /// The program ran: the reply to a kept GET, and what the run cost.
     pub fn answered(alloc: Global, answer: &Answer) -> Result<Ending, AllocError>
-        ensures { IfOk result (λ e. e ≡ due (answered answer.now.verdict answer.now.units)) }
+        ensures { IfOk result (λ e. e ≡ due
+            (answered (reported_verdict answer.now.verdict) answer.now.units)) }
     {
         let units = answer.units();
         Ok(Ending {
             status: Status::Ok,
-            text: reply_text(
-                alloc,
-                outcome_of(answer.verdict()),
-                OCTET_STREAM,
-                false,
-                true,
-            )?,
+            text: reply_text(alloc, outcome(answer), OCTET_STREAM, false, true)?,
             note: format!(in alloc; "units {units}\n")?,
         })
     }
@@ -206,18 +201,4 @@ fn summary_counts(alloc: Global, summary: Summary) -> Result<String, AllocError>
     let (requests, admitted, started) = (summary.requests, summary.admitted, summary.started);
     let words = format!(in alloc; "requests {requests} admitted {admitted} started {started}")?;
     Ok(words)
-}
-
-/// What the reply reports of a verdict. A program that ends itself with code 0 has replied.
-fn outcome_of(verdict: &Verdict) -> Outcome<'_>
-    ensures reports { reported result ≡ reported_verdict (told verdict.now) }
-    ensures tells { IsOutcome result }
-{
-    match verdict {
-        Verdict::Replied(reply) => Outcome::Bytes(reply.bytes()),
-        Verdict::Exit { code: 0, reply } => Outcome::Bytes(reply.bytes()),
-        Verdict::Exit { code, .. } => Outcome::Exit(*code),
-        Verdict::Trap(why) => Outcome::Trap(why.text()),
-        Verdict::Spent => Outcome::Spent,
-    }
 }

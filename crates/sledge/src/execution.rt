@@ -25,7 +25,8 @@ pub fn execute(
     requires fits { length body.items ≤ 2 ^ 20 }
     requires budget { budget ≤ 2 ^ 40 }
     requires pages { program.pages ≡ given_pages }
-    ensures { IfOk result (λ answer. AnswersFor (request_of program budget body.items) answer.verdict answer.units) }
+    ensures { IfOk result (λ answer. AnswersFor (request_of program budget body.items)
+        answer.verdict answer.units) }
 {
     let berth = Berth::new(alloc, program.pages())?;
     let streams = match Streams::new(alloc, body) {
@@ -38,7 +39,8 @@ pub fn execute(
 
 /// The answer to a request that has begun.
 fn to_its_end(begun: Sandbox) -> Answer
-    ensures { (request : Request) → StandsFor request begun → AnswersFor request result.verdict result.units }
+    ensures { (request : Request) → StandsFor request begun
+        → AnswersFor request result.verdict result.units }
 {
     let mut sandbox = begun;
     loop {

@@ -55,14 +55,17 @@ pub fn invoke_endings()
     ensures body_missing { (words : List (List ℕ)) (files : Files)
         (i : InvokeWords) (file : List ℕ) (program : Program)
         → command_of words ≡ Some (AsksInvoke i) → files i.module_name ≡ Some file
-        → IsAccepted given_pages file program → files i.body_name ≡ None → ending words files ≡ not_read i.body_name }
+        → IsAccepted given_pages file program → files i.body_name ≡ None
+        → ending words files ≡ not_read i.body_name }
     ensures body_too_long { (words : List (List ℕ)) (files : Files)
         (i : InvokeWords) (file body : List ℕ) (program : Program)
-        → command_of words ≡ Some (AsksInvoke i) → HoldsBoth i files file body → IsAccepted given_pages file program
+        → command_of words ≡ Some (AsksInvoke i) → HoldsBoth i files file body
+        → IsAccepted given_pages file program
         → body_limit < length body → ending words files ≡ recording_fault 76 }
     ensures complete { (words : List (List ℕ)) (files : Files)
         (i : InvokeWords) (file body : List ℕ) (program : Program)
-        → command_of words ≡ Some (AsksInvoke i) → HoldsBoth i files file body → IsAccepted given_pages file program
+        → command_of words ≡ Some (AsksInvoke i) → HoldsBoth i files file body
+        → IsAccepted given_pages file program
         → length body ≤ body_limit → AnswersInvoke i files (ending words files) }
 
     // And where it ends with status 0, it is answered by the verdict.

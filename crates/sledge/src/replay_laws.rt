@@ -3,7 +3,7 @@
 ghost use Rattle.std.specs.Prelude.{◌≡◌, ◌^◌, ◌<◌, ℕ, List, None, Some, Ok, Err, length, true, false};
 ghost use Rattle.outside.specs.Library.{Files};
 ghost use Rattle.wasm_meaning.specs.Programs.{Program};
-ghost use Rattle.recorded_arrivals.specs.Limits.{has_too_many};
+ghost use Rattle.recorded_arrivals.specs.Limits.{has_too_many, too_many_requests};
 ghost use Rattle.recording_format.specs.Recorded.{AreBytes, IsRefused, Recorded};
 ghost use Rattle.recording_format.specs.Refusals.{number_of as recording_number};
 ghost use Rattle.recording_format.specs.declared.records.Record.{Record};
@@ -45,7 +45,7 @@ pub fn replay_endings()
         (c : Configuration) (programs : List Program) (file : List ℕ) (records : List Record)
         → command_of words ≡ Some (AsksReplay r) → Ready r files c programs
         → files r.recording_name ≡ Some file → recording_of (length c.tenants) file ≡ Ok records
-        → has_too_many records ≡ true → ending words files ≡ recording_fault 77 }
+        → has_too_many records ≡ true → ending words files ≡ recording_fault too_many_requests }
     ensures complete { (words : List (List ℕ)) (files : Files) (r : ReplayWords)
         (c : Configuration) (programs : List Program) (file : List ℕ) (records : List Record)
         → command_of words ≡ Some (AsksReplay r) → Ready r files c programs

@@ -5,7 +5,7 @@ ghost use Rattle.outside.specs.Library.{Files};
 ghost use Rattle.generated_load.specs.Configuration.{soak_configuration};
 ghost use Rattle.generated_load.specs.Modules.{soak_files};
 ghost use Rattle.generated_load.specs.Recording.{soak_records};
-ghost use Rattle.recorded_arrivals.specs.Limits.{has_too_many};
+ghost use Rattle.recorded_arrivals.specs.Limits.{has_too_many, too_many_requests};
 ghost use Rattle.recorded_runner.specs.Summaries.{summary_of};
 ghost use Rattle.serve_config.specs.Loading.{loaded};
 ghost use Rattle.serve_config.specs.Routing.{all_routes};
@@ -23,18 +23,21 @@ pub fn soak_endings()
     // All modules of the load are loaded.
     ensures loads { loaded soak_files 0 (all_routes soak_configuration.tenants) ≡ Ok soak_loaded }
 
-    // Where the load has no more items than a recording may have, the text is the line of the summary of its replay, and there is no note.
+    // Where the load has no more items than a recording may have, the text is the line of the summary
+    // of its replay, and there is no note.
     ensures complete { (words : List (List ℕ)) (files : Files) (s : SoakWords)
         → command_of words ≡ Some (AsksSoak s) → has_too_many (soak_records s.start s.count) ≡ false
-        → ending words files ≡ shown (summary_line (summary_of soak_configuration soak_loaded (soak_records s.start s.count))) }
+        → ending words files ≡ shown (summary_line
+        (summary_of soak_configuration soak_loaded (soak_records s.start s.count))) }
     ensures too_many { (words : List (List ℕ)) (files : Files) (s : SoakWords)
         → command_of words ≡ Some (AsksSoak s) → has_too_many (soak_records s.start s.count) ≡ true
-        → ending words files ≡ recording_fault 77 }
+        → ending words files ≡ recording_fault too_many_requests }
 
     // And so it is where it ends with status 0.
     ensures answered { (words : List (List ℕ)) (files : Files) (s : SoakWords)
         → command_of words ≡ Some (AsksSoak s) → status_of (ending words files) ≡ IsDone
-        → ending words files ≡ shown (summary_line (summary_of soak_configuration soak_loaded (soak_records s.start s.count))) }
+        → ending words files ≡ shown (summary_line
+        (summary_of soak_configuration soak_loaded (soak_records s.start s.count))) }
 {
     load_is_whole();
 }

@@ -52,7 +52,8 @@ fn from_config<R: Threads + Sync, G: Gate>(
     requires config { config.now ≡ soak_configuration }
     requires some { 1 ≤ words.count }
     requires few { words.count ≤ 4096 }
-    ensures { IfOk result (λ e. e ≡ due (summed config.now soak_loaded (soak_records words.start words.count))) }
+    ensures { IfOk result (λ e. e ≡ due
+        (summed config.now soak_loaded (soak_records words.start words.count))) }
 {
     load_is_whole();
     let programs = soak_programs(alloc)?;
@@ -74,7 +75,8 @@ fn from_programs<R: Threads + Sync, G: Gate>(
     requires programs { AreProgramsOf (all_routes config.now.tenants) (programs_in programs.now) }
     requires some { 1 ≤ words.count }
     requires few { words.count ≤ 4096 }
-    ensures { IfOk result (λ e. e ≡ due (summed config.now (programs_in programs.now) (soak_records words.start words.count))) }
+    ensures { IfOk result (λ e. e ≡ due (summed config.now (programs_in programs.now)
+        (soak_records words.start words.count))) }
 {
     load_is_whole();
     let recording = soak_recording(alloc, words.start, words.count)?;
@@ -94,7 +96,8 @@ fn from_recording<R: Threads + Sync, G: Gate>(
 ) -> Result<Ending, AllocError>
     requires programs { AreProgramsOf (all_routes config.now.tenants) (programs_in programs.now) }
     requires tenants { AreOwned (length config.now.tenants) recording.now }
-    ensures { IfOk result (λ e. e ≡ due (summed config.now (programs_in programs.now) recording.now)) }
+    ensures { IfOk result (λ e. e ≡ due
+        (summed config.now (programs_in programs.now) recording.now)) }
 {
     match replay(rt, alloc, config, programs, recording, gate) {
         Ok(played) => {

@@ -1,3 +1,5 @@
+//! The statuses with which a command ends, and the exit status of the process for each.
+
 ghost use Rattle.std.specs.Prelude.{◌≡◌};
 
 /// How a command ended.

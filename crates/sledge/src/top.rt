@@ -25,9 +25,12 @@ const OUT_OF_MEMORY: &[u8] = b"memory\n";
 /// to `out`, and then one line to `notes`. It always returns.
 ///
 /// The order is: the words; each file read and then checked; the run; the writing. The text goes to
-/// `out` in pieces of 65,536 bytes. `rt` and `gate` serve the commands that run workers.
+/// `out` in pieces of 65,536 bytes. `rt` and `gate` are handed to `replay` and `soak`: each turn of
+/// theirs passes the gate.
 ///
-/// What an ending is of each command, and when, the laws say (`laws::endings`).
+/// What the ending of each command is, and when, the laws say: `laws::shown_endings` and
+/// `laws::invoke_endings`, `check_laws::check_endings`, `replay_laws::replay_endings` and
+/// `soak_laws::soak_endings`.
 pub fn run<R: Threads + Sync, L: Library, S: Sink, N: Sink, G: Gate>(
     rt: &R,
     alloc: Global,

@@ -1,0 +1,4 @@
+pub mod Zips
+pub mod Ends
+pub mod Opening
+pub mod Crossing

@@ -1,5 +1,5 @@
 -- The bodies so far, and one more.
-use Rattle.std.proofs.Common.{◌≡◌, ℕ, below_more, ◌+◌, ◌-◌, ◌<◌, ◌≤◌, List, [], ◌∷◌, ◌++◌, length, get_or, take, drop, Option, Some, None, Result, Ok, Err, refl, ap, sym, ◌∙◌, arith, length-append}
+use Rattle.std.proofs.Common.{◌≡◌, ℕ, below_more, ◌+◌, ◌-◌, ◌<◌, ◌≤◌, List, [], ◌∷◌, ◌++◌, length, get_or, take, drop, Option, Some, Ok, refl, ap, sym, ◌∙◌, arith, length-append}
 use Rattle.std.proofs.lemmas.List.{get_or_append_left, get_or-append_right, length-take-le}
 use Rattle.wasm_meaning.specs.ValidityChecks.{Check, go_on, each_behind}
 use Rattle.wasm_validate.proofs.Loops.{next_item}

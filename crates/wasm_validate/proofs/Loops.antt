@@ -1,9 +1,8 @@
 -- What is left of a list's walk before an item.
-use Rattle.std.proofs.Common.{◌≡◌, ℕ, suc, ◌+◌, ◌<◌, ◌≤◌, List, [], ◌∷◌, ◌++◌, length, get_or, take, drop, Option, Some, None, Result, Ok, Err, refl, ap, sym, ◌∙◌, add-one, arith}
+use Rattle.std.proofs.Common.{◌≡◌, ℕ, suc, ◌+◌, ◌<◌, List, [], ◌∷◌, ◌++◌, length, get_or, take, drop, Option, Some, None, Err, ap, sym, ◌∙◌, add-one, arith}
 use Rattle.std.proofs.Math.Seq.{drop-cons}
 use Rattle.std.proofs.lemmas.List.{take_more, length-take-le}
 use Rattle.wasm_meaning.specs.declared.violations.Rule.{Rule}
-use Rattle.wasm_meaning.specs.declared.violations.Broken.{Broken}
 use Rattle.wasm_meaning.specs.ValidityRules.{rule_number}
 use Rattle.wasm_meaning.specs.ValidityChecks.{Check, go_on, each_behind, broken_at}
 

@@ -1,8 +1,6 @@
 -- The items so far break no rule: those that are left tell what all tell.
-use Rattle.std.proofs.Common.{◌≡◌, length, take}
-use Rattle.std.specs.Prelude.{◌||◌, nat_lt}
-use Rattle.wasm_meaning.specs.ValiditySpaces.{tables, memories, functions}
-use Rattle.wasm_meaning.specs.Validity.{functions_walk, function_rule, has_table, has_memory}
+use Rattle.std.proofs.Common.{◌≡◌, length}
+use Rattle.wasm_meaning.specs.Validity.{functions_walk, function_rule}
 use Rattle.wasm_validate.proofs.Loops.{left_from}
 use Rattle.wasm_validate.proofs.lists.functions_walk.Given as goal
 

@@ -1,7 +1,5 @@
 -- The items so far break no rule: those that are left tell what all tell.
 use Rattle.std.proofs.Common.{◌≡◌, length, take}
-use Rattle.std.specs.Prelude.{◌||◌, nat_lt}
-use Rattle.wasm_meaning.specs.ValiditySpaces.{tables, memories, functions}
 use Rattle.wasm_meaning.specs.Validity.{imports_walk, import_rule, has_table, has_memory}
 use Rattle.wasm_validate.proofs.Loops.{left_from}
 use Rattle.wasm_validate.proofs.lists.imports_walk.Given as goal

@@ -1,8 +1,7 @@
 -- The items so far break no rule: those that are left tell what all tell.
-use Rattle.std.proofs.Common.{◌≡◌, length, take}
-use Rattle.std.specs.Prelude.{◌||◌, nat_lt}
-use Rattle.wasm_meaning.specs.ValiditySpaces.{tables, memories, functions}
-use Rattle.wasm_meaning.specs.Validity.{segments_walk, segment_rule, has_table, has_memory}
+use Rattle.std.proofs.Common.{◌≡◌, length}
+use Rattle.wasm_meaning.specs.ValiditySpaces.{memories}
+use Rattle.wasm_meaning.specs.Validity.{segments_walk, segment_rule}
 use Rattle.wasm_validate.proofs.Loops.{left_from}
 use Rattle.wasm_validate.proofs.lists.segments_walk.Given as goal
 

@@ -1,3 +1,4 @@
 pub mod Measured
 pub mod Outcome
 pub mod Results
+pub mod Names

@@ -5,9 +5,9 @@
 
 For each kind of module it prints both times in milliseconds and their ratio. Where reading and checking are linear, the
 ratio is 2; the names of exports stand in an ordered set, whose steps grow with its size, so that theirs is somewhat more. Where
-they are quadratic it is 4, and one above 3 is told as a failure. A time is the least processor time of several runs, without
+they are quadratic it is 4, and one above 2.3 is told as a failure. A time is the least processor time of several runs, without
 that of a file which is the header alone. The modules are valid and export no `_start`, so they are not run: each run has to end
-with `module 53 0 0` and exit status 5.
+with `module 53 0 0` and exit status 5. A machine that does other things besides tells more than 2 where its caches are shared.
 """
 
 import subprocess
@@ -17,7 +17,7 @@ import tempfile
 import read_module
 from read_module import CONST_AND_DROP, END, HEADER, MOST_BYTES, ROOM, SCRIPT, functions, number, section, sized
 
-GREATEST_RATIO = 3
+GREATEST_RATIO = 2.3
 NO_LOCALS = b"\0"
 
 

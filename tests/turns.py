@@ -112,12 +112,12 @@ PROGRAMS = [
 GROWN, SEED = 16, 19
 
 
-def became(data, request_body, budget):
-    """What becomes of a request, as the table tells it, and its prices."""
+def became(data, request_body, budget, pages=256):
+    """What becomes of a request whose module is given so many pages, as the table tells it, and its prices."""
     decoded = module_validator.decode(data)
     assert module_validator.violation(decoded) is None
-    assert interpreter.link_refusal(decoded, 256) is None
-    machine = interpreter.Machine(decoded, request_body, budget, 256)
+    assert interpreter.link_refusal(decoded, pages) is None
+    machine = interpreter.Machine(decoded, request_body, budget, pages)
     try:
         machine.whole()
     except interpreter.Trap as trap:

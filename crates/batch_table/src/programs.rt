@@ -1,0 +1,23 @@
+//! Programs and bodies of requests.
+
+use std::alloc::Global;
+use wasm_instance::{Program, link};
+use wasm_reader::read_module;
+use wasm_validate::validate;
+
+/// The bytes that stand in hexadecimal.
+pub fn bytes_of(alloc: Global, spelling: &str) -> Option<Vec<u8>> {
+    if spelling == "-" {
+        Some(Vec::new(alloc))
+    } else {
+        hex::decode(alloc, spelling).ok()
+    }
+}
+
+/// The program of a module that is given so many pages.
+pub fn program_of(alloc: Global, spelling: &str, pages: u32) -> Option<Program> {
+    let bytes = bytes_of(alloc, spelling)?;
+    let module = read_module(alloc, &bytes).ok()?;
+    let valid = validate(alloc, module).ok()?;
+    link(alloc, valid, pages).ok()
+}

@@ -5,7 +5,7 @@ use workers::Settings;
 
 /// Which gate the workers of a batch pass.
 #[derive(Clone, Copy)]
-pub enum Door {
+pub enum GateKind {
     /// The one that the program ships, which does nothing.
     Open,
 
@@ -16,7 +16,7 @@ pub enum Door {
 /// The first line of a batch.
 #[derive(Clone, Copy)]
 pub struct Head {
-    pub door: Door,
+    pub gate: GateKind,
     pub settings: Settings,
 }
 
@@ -34,9 +34,9 @@ impl Head {
     pub fn parse(line: &str) -> Option<Head> {
         let mut words = line.split_whitespace();
         Some(Head {
-            door: match words.next()? {
-                "open" => Door::Open,
-                "held" => Door::Held,
+            gate: match words.next()? {
+                "open" => GateKind::Open,
+                "held" => GateKind::Held,
                 _ => return None,
             },
             settings: Settings {

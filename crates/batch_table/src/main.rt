@@ -16,7 +16,7 @@ mod programs;
 use answers::print_answers;
 use batches::Batch;
 use gates::HoldingGate;
-use lines::{Door, Head};
+use lines::{GateKind, Head};
 use std::io;
 use std::thread::Threads;
 use workers::{Gate, OpenGate, Settings};
@@ -59,12 +59,12 @@ fn print_held<R: Threads + Sync + Print + AllocGlobal>(rt: &R, batch: Batch) -> 
 /// Runs the batch of these lines, and prints what comes of it.
 fn print_batch<R: Threads + Sync + Print + AllocGlobal>(rt: &R, lines: &str) -> io::Result<()> {
     let (first, requests) = lines.split_once('\n').unwrap_or((lines, ""));
-    let Some(Head { door, settings }) = Head::parse(first) else {
+    let Some(Head { gate, settings }) = Head::parse(first) else {
         return println!(rt; "no batch");
     };
-    match (gathered(rt, settings, requests)?, door) {
-        (Some(batch), Door::Open) => print_run(rt, batch, &OpenGate),
-        (Some(batch), Door::Held) => print_held(rt, batch),
+    match (gathered(rt, settings, requests)?, gate) {
+        (Some(batch), GateKind::Open) => print_run(rt, batch, &OpenGate),
+        (Some(batch), GateKind::Held) => print_held(rt, batch),
         (None, _) => println!(rt; "no batch"),
     }
 }

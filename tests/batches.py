@@ -13,7 +13,6 @@ import functools
 import sys
 
 import interpreter
-import module_validator
 import turns
 from turns import BY_ZERO, DEEP, ENDS_WELL, EXITS, GROWS, NOPS, NOTHING, TWO_ENTRIES
 from whole_modules import ECHO, ENDLESS, PAGE_FILLER, UNREACHABLE, ZERO_READER

@@ -40,7 +40,7 @@ impl HoldingGate {
         self.passes.load(Ordering::SeqCst)
     }
 
-    /// What it saw.
+    /// What it saw, as it is printed.
     pub fn saw(&self) -> &'static str {
         if self.has_given_up.load(Ordering::SeqCst) {
             "a hold came to its last look"

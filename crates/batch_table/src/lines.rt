@@ -6,7 +6,7 @@ use workers::Settings;
 /// Which gate the workers of a batch pass.
 #[derive(Clone, Copy)]
 pub enum GateKind {
-    /// The one that the program ships, which does nothing.
+    /// `OpenGate`, which does nothing.
     Open,
 
     /// One that holds workers until it has seen a take-over.

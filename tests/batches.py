@@ -103,7 +103,7 @@ def refused():
     yield ["shut 2 7 rr 2 1"], ["no batch"]
     first, *others = whole[0]
     none = [NOTHING[:-1].hex() + " - 10 0", ECHO.hex() + " - 10 0", "0 - 10 0", NOTHING.hex() + " - %d 0" % (2**40 + 1), NOTHING.hex()]
-    yield [first, none[0], others[0], *none[1:3], *others[1:], *none[3:]], ["no request"] * len(none) + whole[1]
+    yield [first, none[0], others[0], *none[1:3], *others[1:], *none[3:]], whole[1]
 
 
 def held():

@@ -36,8 +36,17 @@ pub struct Batch {
 }
 
 impl Batch {
-    /// A batch of no requests, if the settings are within the limits.
-    pub fn new(alloc: Global, settings: Settings) -> Option<Batch> {
+    /// The requests of these lines, if the settings are within the limits. A line that is no request is left out, as are those for which there is no room.
+    pub fn gather(alloc: Global, settings: Settings, lines: &str) -> Option<Batch> {
+        let mut batch = Batch::new(alloc, settings)?;
+        for line in lines.lines() {
+            batch.add(alloc, line);
+        }
+        Some(batch)
+    }
+
+    // A batch of no requests, if the settings are within the limits.
+    fn new(alloc: Global, settings: Settings) -> Option<Batch> {
         if !is_within_limits(&settings) {
             return None;
         }
@@ -47,16 +56,24 @@ impl Batch {
         })
     }
 
-    /// Puts the request of a line behind the others, if it is one and there is room for it.
-    pub fn add(&mut self, alloc: Global, line: &str) -> bool {
+    // Puts the request of a line behind the others, if it is one and there is room for it.
+    fn add(&mut self, alloc: Global, line: &str) {
         let place = self.requests.len();
         if MOST_REQUESTS <= place {
-            return false;
+            return;
         }
-        match admitted(alloc, place as u32, self.settings.pages, line) {
-            Some(request) => self.requests.push(request).is_ok(),
-            None => false,
+        if let Some(request) = admitted(alloc, place as u32, self.settings.pages, line) {
+            self.push(request);
         }
+    }
+
+    // Puts a request behind the others, if there is memory for it.
+    fn push(&mut self, request: Admitted)
+        requires few { length self.old.requests.items < 4096 }
+        requires place { request.place ≡ length self.old.requests.items }
+        requires pages { FitsBerths self.old.settings.pages request }
+    {
+        drop(self.requests.push(request));
     }
 
     /// Runs the requests, and answers them in order.
@@ -80,18 +97,23 @@ fn is_within_limits(settings: &Settings) -> bool
     is_some && settings.workers <= 64 && has_room
 }
 
-/// The request of a line, at its place, whose module is given so many pages.
+// The request of a line, at its place, whose module is given so many pages.
 fn admitted(alloc: Global, place: u32, pages: u32, line: &str) -> Option<Admitted>
     ensures place { IfSome result (λ job. job.place ≡ place) }
     ensures pages { IfSome result (FitsBerths pages) }
 {
     let asked = Asked::parse(line)?;
-    let program = program_of(alloc, asked.module, pages)?;
     let body = bytes_of(alloc, asked.body)?;
-    if pages < program.pages() || MOST_BYTES < body.len() || MOST_UNITS < asked.budget {
+    if MOST_BYTES < body.len() || MOST_UNITS < asked.budget {
         return None;
     }
-    let program = Arc::new(alloc, program).ok()?;
-    let streams = Streams::new(alloc, body).ok()?;
-    Some(Admitted::new(place, asked.deadline, asked.budget, streams, program))
+    let program = Arc::new(alloc, program_of(alloc, asked.module, pages)?).ok()?;
+    match Streams::new(alloc, body) {
+        Ok(streams) => Some(Admitted::new(place, asked.deadline, asked.budget, streams, program)),
+        Err(fault) => {
+            drop(fault);
+            drop(program);
+            None
+        }
+    }
 }

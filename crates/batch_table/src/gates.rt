@@ -41,7 +41,7 @@ impl HoldingGate {
     }
 
     /// What it saw, as it is printed.
-    pub fn saw(&self) -> &'static str {
+    pub fn report(&self) -> &'static str {
         if self.has_given_up.load(Ordering::SeqCst) {
             "a hold came to its last look"
         } else if self.is_taken_over.load(Ordering::SeqCst) {

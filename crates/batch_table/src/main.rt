@@ -2,7 +2,7 @@
 //!
 //! Standard input has batches, each ended by an empty line. Words are separated by blanks; a module and a body stand in hexadecimal, `-` for no bytes.
 //! The first line of a batch is `GATE WORKERS QUANTUM POLICY BERTHS PAGES`. The gate is `open` or `held`, the policy `rr` or `edf`; the pages are those of each berth, and each module is given as many. Each line behind it is a request, `MODULE BODY BUDGET DEADLINE`.
-//! A batch is printed as `answers` with their number, and behind it the answers in the order of the requests, a line each: the verdict, the units and the turns. A line that is no request is printed as `no request` and left out, and a batch whose first line has no settings within the limits as `no batch`.
+//! A batch is printed as `answers` with their number, and behind it the answers in the order of the requests, a line each: the verdict, the units and the turns. A line that is no request, or of a module that is refused, is left out. A batch whose first line has no settings within the limits is printed as `no batch`.
 //! Behind the answers of a batch with the gate `held` stand how often this was passed, and whether one worker took over what another had begun while it held that other (`gates.rt`).
 //! `tests/batches.py` makes the batches, and computes from the standard alone what must be printed of them. The program stands on `workers` and what is below it.
 #![tactic(auto)]
@@ -19,24 +19,7 @@ use gates::HoldingGate;
 use lines::{GateKind, Head};
 use std::io;
 use std::thread::Threads;
-use workers::{Gate, OpenGate, Settings};
-
-/// Gathers the requests of a batch, and prints which lines are none.
-fn gathered(
-    rt: &(impl Print + AllocGlobal),
-    settings: Settings,
-    requests: &str,
-) -> io::Result<Option<Batch>> {
-    let Some(mut batch) = Batch::new(rt.alloc(), settings) else {
-        return Ok(None);
-    };
-    for line in requests.lines() {
-        if !batch.add(rt.alloc(), line) {
-            println!(rt; "no request")?;
-        }
-    }
-    Ok(Some(batch))
-}
+use workers::{Gate, OpenGate};
 
 /// Runs a batch, and prints its answers.
 fn print_run<R: Threads + Sync + Print + AllocGlobal, G: Gate>(
@@ -45,15 +28,19 @@ fn print_run<R: Threads + Sync + Print + AllocGlobal, G: Gate>(
     gate: &G,
 ) -> io::Result<()> {
     let answers = batch.run(rt, rt.alloc(), gate)?;
-    print_answers(rt, answers.as_slice())
+    let printed = print_answers(rt, answers.as_slice());
+    drop(answers);
+    printed
 }
 
 /// Runs a batch with a gate that holds, and prints its answers and what the gate saw.
 fn print_held<R: Threads + Sync + Print + AllocGlobal>(rt: &R, batch: Batch) -> io::Result<()> {
     let gate = HoldingGate::new();
-    print_run(rt, batch, &gate)?;
-    let (passes, saw) = (gate.passes(), gate.saw());
-    println!(rt; "passes {passes}, {saw}")
+    let printed = print_run(rt, batch, &gate);
+    let (passes, report) = (gate.passes(), gate.report());
+    drop(gate);
+    printed?;
+    println!(rt; "passes {passes}, {report}")
 }
 
 /// Runs the batch of these lines, and prints what comes of it.
@@ -62,10 +49,12 @@ fn print_batch<R: Threads + Sync + Print + AllocGlobal>(rt: &R, lines: &str) -> 
     let Some(Head { gate, settings }) = Head::parse(first) else {
         return println!(rt; "no batch");
     };
-    match (gathered(rt, settings, requests)?, gate) {
-        (Some(batch), GateKind::Open) => print_run(rt, batch, &OpenGate),
-        (Some(batch), GateKind::Held) => print_held(rt, batch),
-        (None, _) => println!(rt; "no batch"),
+    let Some(batch) = Batch::gather(rt.alloc(), settings, requests) else {
+        return println!(rt; "no batch");
+    };
+    match gate {
+        GateKind::Open => print_run(rt, batch, &OpenGate),
+        GateKind::Held => print_held(rt, batch),
     }
 }
 

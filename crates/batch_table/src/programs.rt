@@ -1,4 +1,5 @@
 //! Programs and bodies of requests.
+ghost use Rattle.std.specs.Prelude.{◌≤◌, IfSome};
 
 use std::alloc::Global;
 use wasm_instance::{Program, link};
@@ -15,9 +16,16 @@ pub fn bytes_of(alloc: Global, spelling: &str) -> Option<Vec<u8>> {
 }
 
 /// The program of a module that is given so many pages.
-pub fn program_of(alloc: Global, spelling: &str, pages: u32) -> Option<Program> {
+pub fn program_of(alloc: Global, spelling: &str, pages: u32) -> Option<Program>
+    ensures pages { IfSome result (λ program. program.pages ≤ pages) }
+{
     let bytes = bytes_of(alloc, spelling)?;
     let module = read_module(alloc, &bytes).ok()?;
     let valid = validate(alloc, module).ok()?;
-    link(alloc, valid, pages).ok()
+    let program = link(alloc, valid, pages).ok()?;
+    if pages < program.pages() {
+        drop(program);
+        return None;
+    }
+    Some(program)
 }

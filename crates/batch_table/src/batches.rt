@@ -1,5 +1,5 @@
 //! Batches, as they are gathered and run.
-ghost use Rattle.std.specs.Prelude.{◌≡◌, ◌≤◌, length, IsTrue, IfSome};
+ghost use Rattle.std.specs.Prelude.{◌≡◌, ◌<◌, ◌≤◌, length, IsTrue, IfSome};
 ghost use Rattle.std.specs.List.{All};
 ghost use Rattle.workers.specs.Batches.{AreNumbered, FitsBerths, IsWithinLimits};
 

@@ -116,8 +116,10 @@ def cases():
     yield "fill and zero in turns of 1", changed(FILLING, quantum=1), FILL, 0, FILL_ANSWERS, note(2, 2, 180236, 180237)
     for workers in (1, 4, 64):
         for policy in ("rr", "edf"):
-            config = changed(FILLING, workers=workers, berths=workers, policy=policy)
-            yield "fill and zero, %d workers, %s" % (workers, policy), config, FILL, 0, FILL_ANSWERS, note(2, 2, 2, 180237)
+            for quantum, turns in ((1, 180236), (1000000, 2)):
+                config = changed(FILLING, workers=workers, berths=workers, policy=policy, quantum=quantum)
+                name = "fill and zero, %d workers, %s, in turns of %d" % (workers, policy, quantum)
+                yield name, config, FILL, 0, FILL_ANSWERS, note(2, 2, turns, 180237)
     asks = [recordings.piece(moment, 0, b"GET /nil HTTP/1.1\r\nHost: x\r\n\r\n") for moment in (0, 0, 19, 20)]
     metered = recordings.recording([recordings.begin(0, 0, 0), *asks])
     yield "a meter", METERED, metered, 0, answers(NIL + SPENT + SPENT + NIL), note(4, 2, 2, 0)

@@ -279,29 +279,30 @@ def made_tenants(chance):
 
 def made_case(chance, name):
     tenants = made_tenants(chance)
-    connections = [made_connection(chance, tenants) for _ in range(chance.choice([0, 1, 2, 3, 8]))]
-    workers = chance.choice([1, 2, 4])
+    connections = [made_connection(chance, tenants) for _ in range(chance.choice([0, 1, 2, 3, 8, 24]))]
+    workers = chance.choice([1, 2, 4, 64])
     others = {"workers": workers, "policy": chance.choice(["rr", "edf"]), "berths": workers + chance.choice([0, 3])}
     return Case(name, tenants, chance.choice([1, 7, 30, 1000]), connections, mixed(chance, connections), **others)
 
 
 def limit_cases():
-    """As many items as there may be, and one more: on one connection and on two, and with a refusal that its end is."""
+    """As many items as there may be, and one more: on one connection and on two, and with a refusal that its end is; and by many workers."""
     tenants = [Tenant(10**6, 0, [Route("/nil", "nil", 10, 1, 0)])]
     ask = request(b"GET", b"/nil")
     cut_head = b"GET /nil HTTP/1.1\r\nHo", Item(b"", number=1, keep=False)
 
-    def case(*connections):
+    def case(*connections, **others):
         begun = [(0, link, 0) for link in range(len(connections))]
         arrived_at_once = [(0, link, connection.data) for link, connection in enumerate(connections)]
         counts = " and ".join(str(len(connection.items)) for connection in connections)
-        return Case("%s items" % counts, tenants, 100, connections, begun + arrived_at_once)
+        return Case("%s items" % counts, tenants, 100, connections, begun + arrived_at_once, **others)
 
     for over in (0, 1):
         yield case(Connection(0, [ask] * (MOST_ITEMS + over)))
         yield case(Connection(0, [ask] * (MOST_ITEMS - 1 + over), *cut_head))
         yield case(Connection(0, [ask] * 2048), Connection(0, [ask] * (2048 + over)))
         yield case(Connection(0, [ask] * (MOST_ITEMS - 1)), Connection(0, [ask] * over, *cut_head))
+    yield case(Connection(0, [ask] * MOST_ITEMS), workers=64, policy="edf", berths=256)
 
 
 def main(words):

@@ -3,4 +3,5 @@ pub mod TallyLaws
 pub mod RouteLaws
 pub mod FateLaws
 pub mod ServedLaws
+pub mod BatchLaws
 pub mod ReplayLaws

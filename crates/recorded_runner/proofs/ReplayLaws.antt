@@ -16,10 +16,7 @@ use Rattle.recorded_runner.specs.Serving.{AreOwned, IsOwned, IsPlayed}
 use Rattle.recorded_runner.specs.Summaries.{summary_over, summary_of}
 use Rattle.recorded_runner.specs.Tallies.{IsWritten}
 use Rattle.recorded_runner.specs.declared.played.Played.{Played}
-
-all_of_both : (P : ℕ → Type 0) (xs ys : List ℕ) → AllByRecursion P xs → AllByRecursion P ys → AllByRecursion P (xs ++ ys)
-all_of_both P [] ys all others = others
-all_of_both P (x ∷ xs) ys all others = (all.0, all_of_both P xs ys all.1 others)
+use Rattle.recorded_runner.proofs.RouteLaws.{all_of_both}
 
 one_owned : (count : ℕ) (event : Event) → IsOwned count event → AllByRecursion (λ (owner : ℕ). owner < count) (tenant_in event)
 one_owned count (Begins tenant) known = (known, tt)

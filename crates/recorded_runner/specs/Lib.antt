@@ -4,6 +4,7 @@ pub mod Replies
 pub mod ReplayText
 pub mod Summaries
 pub mod Serving
+pub mod Batch
 pub mod Seen
 pub mod Joined
 pub mod Tallies

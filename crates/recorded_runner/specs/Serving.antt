@@ -1,23 +1,20 @@
 -- What a call of `replay` owes and answers, in the words of the definitions.
-use Rattle.std.specs.Prelude.{◌≡◌, ◌<◌, ◌≤◌, ℕ, Bool, false, List, [], ◌∷◌, length, Some}
+use Rattle.std.specs.Prelude.{◌≡◌, ◌<◌, ◌≤◌, ℕ, false, List, [], ◌∷◌, length}
 use Rattle.std.specs.List.{AllByRecursion}
 use Rattle.recording_format.specs.declared.records.Event.{Event}
 use Rattle.recording_format.specs.declared.records.Event.TheVariants.{Begins, Arrives, Closes}
 use Rattle.recording_format.specs.declared.records.Record.{Record}
-use Rattle.http_front.specs.Reply.{reply_of}
 use Rattle.serve_config.specs.declared.tenants.Route.{Route}
 use Rattle.serve_config.specs.declared.tenants.Tenant.{Tenant}
 use Rattle.serve_config.specs.Routing.{all_routes}
 use Rattle.serve_config.specs.Configuration.{Configuration}
 use Rattle.wasm_meaning.specs.Programs.{Program}
 use Rattle.recorded_arrivals.specs.Limits.{has_too_many}
-use Rattle.wasm_meaning.specs.Requests.{Request, Verdict, verdict}
 use Rattle.wasm_meaning.specs.Requests.{units as units_of}
-use Rattle.recorded_runner.specs.Fates.{Fate, Refuses, Admits}
-use Rattle.recorded_runner.specs.Lookups.{of_member}
-use Rattle.recorded_runner.specs.Replies.{reported_verdict, request_at}
+use Rattle.recorded_runner.specs.Fates.{Fate, Refuses, Admits, Decided}
+use Rattle.recorded_runner.specs.Replies.{reply_to}
 use Rattle.recorded_runner.specs.ReplayText.{replay_text}
-use Rattle.recorded_runner.specs.Summaries.{summary_of, turns_in}
+use Rattle.recorded_runner.specs.Summaries.{admitted_in, cost_in, summary_of, turns_in}
 use Rattle.recorded_runner.specs.declared.played.Played.{Played}
 
 -- the programs are those of these routes, in order, each with the pages of its route
@@ -52,12 +49,9 @@ IsServable tenants (Admits route body) = (route < length (all_routes tenants)) �
 abbrev pub AreRoomy : (pages : ℕ) → List Route → Type 0
 AreRoomy pages routes = AllByRecursion (λ (r : Route). r.pages ≤ pages) routes
 
--- the request that a body makes at a route has this reply, these turns and these units
-pub record IsServed (tenants : List Tenant) (programs : List Program) (quantum route : ℕ) (body : List ℕ) (head keep : Bool) (reply : List ℕ) (turns units : ℕ) : Type 0 where
-  pub request : Request
-  pub made : request_at tenants programs route body ≡ Some request
-  pub found : Verdict
-  pub is : verdict request ≡ Some found
-  pub reply_is : reply ≡ reply_of (reported_verdict found) (of_member (λ r. r.content_type) [] (all_routes tenants) route) head keep
-  pub turns_are : turns ≡ turns_in quantum request
-  pub units_are : units ≡ units_of request
+-- the reply to an item, whether it is admitted, and what its request takes
+pub record IsReplyTo (config : Configuration) (programs : List Program) (d : Decided) (reply : List ℕ) (admitted turns units : ℕ) : Type 0 where
+  pub reply_is : reply ≡ reply_to config.tenants programs d
+  pub admitted_is : admitted ≡ admitted_in d.fate
+  pub turns_are : turns ≡ cost_in (turns_in config.quantum) config.tenants programs d.fate
+  pub units_are : units ≡ cost_in units_of config.tenants programs d.fate

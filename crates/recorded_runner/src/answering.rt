@@ -1,150 +1,84 @@
-//! Answering one item, and what that takes.
-ghost use Rattle.std.specs.Prelude.{◌≡◌, ◌+◌, ◌^◌, ◌≤◌, ◌<◌, [], length, IfOk};
+//! The reply to one item, and what that took.
+ghost use Rattle.std.specs.Prelude.{◌≡◌, ◌+◌, ◌^◌, ◌≤◌, ◌<◌, List, [], length, IfOk};
 ghost use Rattle.http_front.specs.Reply.{reply_of};
 ghost use Rattle.http_front.specs.Reported.{RefusedAs};
-ghost use Rattle.wasm_meaning.specs.Requests.{units as units_due};
-ghost use Rattle.serve_config.specs.Loaded.{programs_in};
 ghost use Rattle.serve_config.specs.Routing.{all_routes};
+ghost use Rattle.wasm_meaning.specs.Programs.{Program};
+ghost use Rattle.recorded_runner.specs.Batch.{FirstIs, IsAnswerFor, IsWithinBudgets, behind};
 ghost use Rattle.recorded_runner.specs.Lookups.{of_member};
-ghost use Rattle.recorded_runner.specs.Replies.{reply_to, reported_verdict};
-ghost use Rattle.recorded_runner.specs.Seen.{decided_seen, fate_seen};
-ghost use Rattle.recorded_runner.specs.Serving.{AreProgramsOf, AreRoomy, IsServable, IsServed};
-ghost use Rattle.recorded_runner.specs.Summaries.{admitted_in, cost_in, turns_in};
+ghost use Rattle.recorded_runner.specs.Replies.{reported_verdict};
+ghost use Rattle.recorded_runner.specs.Seen.{awaited_seen};
+ghost use Rattle.recorded_runner.specs.Serving.{IsReplyTo, IsServable};
 
-use crate::deciding::{Decided, Entry, Fate};
+use crate::batching::{Awaited, Source};
 use crate::outcomes::outcome;
-use crate::running::{job_of, run_job};
 use http_front::{Outcome, Refusal, reply_text};
-use memory_pool::Berth;
-use outside::Gate;
 use sandbox_states::Answer;
 use serve_config::Config;
 use std::alloc::{AllocError, Global};
-use std::sync::Arc;
-use wasm_instance::Program;
-use wasm_meaning::laws::requests_keep_their_verdict;
+use std::collections::VecDeque;
 
-/// A reply, what its request took, and the berth, which is clean again.
+/// A reply, how many requests it answers that were admitted, which is one or none, and what these took.
 #[derive(Drop)]
 pub(crate) struct Replied {
     pub(crate) reply: Vec<u8>,
     pub(crate) admitted: u64,
     pub(crate) turns: u64,
     pub(crate) units: u64,
-    pub(crate) berth: Berth,
 }
 
-/// Answers an item: a refusal by its text, and a request by running it. The place is that of the next request that is admitted.
-pub(crate) fn answer<G: Gate>(
+/// The reply to the next item: to a refusal by its text, and to a request by the first of the answers, which is taken out. For whichever programs that is the answer to its request, the reply is the item's.
+pub(crate) fn reply_next(
     alloc: Global,
     config: &Config,
-    programs: &[Arc<Program>],
-    place: u32,
-    item: Decided,
-    berth: Berth,
-    gate: &G,
+    item: Awaited,
+    answers: &mut VecDeque<Answer>,
 ) -> Result<Replied, AllocError>
-    requires programs { AreProgramsOf (all_routes config.now.tenants) (programs_in programs.now) }
-    requires servable { IsServable config.now.tenants (fate_seen item.fate) }
-    requires roomy { AreRoomy berth.pages (all_routes config.now.tenants) }
-    ensures reply { IfOk result (λ r. r.reply.items ≡ reply_to config.now.tenants (programs_in programs.now) (decided_seen item)) }
-    ensures admitted { IfOk result (λ r. r.admitted ≡ admitted_in (fate_seen item.fate)) }
-    ensures turns { IfOk result (λ r. r.turns ≡ cost_in (turns_in config.now.quantum) config.now.tenants (programs_in programs.now) (fate_seen item.fate)) }
-    ensures units { IfOk result (λ r. r.units ≡ cost_in units_due config.now.tenants (programs_in programs.now) (fate_seen item.fate)) }
+    requires servable { IsServable config.now.tenants (awaited_seen item).fate }
+    requires answered { FirstIs IsWithinBudgets (awaited_seen item).fate answers.old.items }
+    ensures replied { (programs : List Program) → FirstIs (IsAnswerFor config.now.tenants programs config.now.quantum) (awaited_seen item).fate answers.old.items
+        → IfOk result (λ r. IsReplyTo config.now programs (awaited_seen item) r.reply.items r.admitted r.turns r.units) }
     ensures few { IfOk result (λ r. (r.admitted ≤ 1) × ((r.turns ≤ 2 ^ 40 + 1) × (r.units ≤ 2 ^ 40))) }
-    ensures berth { IfOk result (λ r. r.berth.pages ≡ berth.pages) }
+    ensures left { answers.new.items ≡ behind (awaited_seen item).fate answers.old.items }
 {
-    let Decided {
+    let Awaited {
         head,
         keep,
-        fate,
+        source,
         ..
     } = item;
-    match fate {
-        Fate::Refused(refusal) => refused(alloc, refusal, head, keep, berth),
-        Fate::Admitted(entry) => {
-            served(
-                alloc, config, programs, place, entry, head, keep, berth, gate,
-            )
+    match source {
+        Source::Refused(refusal) => Ok(Replied {
+            reply: reply_to_refusal(alloc, refusal, head, keep)?,
+            admitted: 0,
+            turns: 0,
+            units: 0,
+        }),
+        Source::Answered(sent) => {
+            let Some(answer) = answers.pop_front() else {
+                unreachable!()
+            };
+            let reply = reply_to_answer(alloc, config, sent.route, &answer, head, keep)?;
+            Ok(Replied {
+                reply,
+                admitted: 1,
+                turns: answer.turns(),
+                units: answer.units(),
+            })
         }
     }
 }
 
-/// Answers an item that is refused. The berth is not used.
-fn refused(
+/// The reply to an item that is refused.
+fn reply_to_refusal(
     alloc: Global,
     refusal: Refusal,
     head: bool,
     keep: bool,
-    berth: Berth,
-) -> Result<Replied, AllocError>
-    ensures reply { IfOk result (λ r. r.reply.items ≡ reply_of (RefusedAs refusal) [] head keep) }
-    ensures nothing { IfOk result (λ r. (r.admitted ≡ 0) × ((r.turns ≡ 0) × (r.units ≡ 0))) }
-    ensures berth { IfOk result (λ r. r.berth.pages ≡ berth.pages) }
+) -> Result<Vec<u8>, AllocError>
+    ensures { IfOk result (λ reply. reply.items ≡ reply_of (RefusedAs refusal) [] head keep) }
 {
-    match reply_text(alloc, Outcome::Refused(refusal.number()), "", head, keep) {
-        Ok(reply) => Ok(Replied {
-            reply,
-            admitted: 0,
-            turns: 0,
-            units: 0,
-            berth,
-        }),
-        Err(fault) => {
-            drop(berth);
-            Err(fault)
-        }
-    }
-}
-
-/// Answers a request that is let in, by running it.
-fn served<G: Gate>(
-    alloc: Global,
-    config: &Config,
-    programs: &[Arc<Program>],
-    place: u32,
-    entry: Entry,
-    head: bool,
-    keep: bool,
-    berth: Berth,
-    gate: &G,
-) -> Result<Replied, AllocError>
-    requires programs { AreProgramsOf (all_routes config.now.tenants) (programs_in programs.now) }
-    requires known { entry.route < length (all_routes config.now.tenants) }
-    requires fits { length entry.body.items ≤ 2 ^ 20 }
-    requires roomy { AreRoomy berth.pages (all_routes config.now.tenants) }
-    ensures served { IfOk result (λ r. IsServed config.now.tenants (programs_in programs.now) config.now.quantum entry.route entry.body.items head keep r.reply.items r.turns r.units) }
-    ensures few { IfOk result (λ r. (r.turns ≤ 2 ^ 40 + 1) × (r.units ≤ 2 ^ 40)) }
-    ensures one { IfOk result (λ r. r.admitted ≡ 1) }
-    ensures berth { IfOk result (λ r. r.berth.pages ≡ berth.pages) }
-{
-    requests_keep_their_verdict();
-    let route = entry.route;
-    let _route = config.route(route);
-    let job = match job_of(alloc, config, programs, place, entry) {
-        Ok(job) => job,
-        Err(fault) => {
-            drop(berth);
-            return Err(fault);
-        }
-    };
-    let (answer, berth) = run_job(job, berth, config.quantum, gate);
-    let reply = reply_to_answer(alloc, config, route, &answer, head, keep);
-    let (turns, units) = (answer.turns(), answer.units());
-    drop(answer);
-    match reply {
-        Ok(reply) => Ok(Replied {
-            reply,
-            admitted: 1,
-            turns,
-            units,
-            berth,
-        }),
-        Err(fault) => {
-            drop(berth);
-            Err(fault)
-        }
-    }
+    reply_text(alloc, Outcome::Refused(refusal.number()), "", head, keep)
 }
 
 /// The reply to a request of a route, from its answer.

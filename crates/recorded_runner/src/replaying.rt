@@ -24,9 +24,11 @@ use wasm_instance::Program;
 ///
 /// The programs are those of the configuration's routes, in order, and the recording is one that was read with its number of tenants. A recording of more than 4,096 items is refused as 77, `TooManyRequests`, before any request runs; the only other error is want of memory.
 ///
-/// Each connection's pieces go through a `Front`, in the order of the records. The meters are asked for the requests in the order of their arrival, and each request that is admitted is run in that order, in the calling thread, in turns of the configuration's quantum, on one berth of the largest pages that is rinsed between them. The gate is passed before each turn, as worker 0, with the request's number among those that are admitted and the turns that it has had.
+/// Each connection's pieces go through a `Front`, in the order of the records. The meters are asked for the requests in the order of their arrival. All requests that are admitted are made before the first turn, each with its body, so all bodies stand in memory at once.
+///
+/// Then they run as one batch: as many workers as the configuration says take them up in any order, in turns of its quantum, by its policy, on its berths of the largest pages that a route has; the calling thread finishes what they leave. The gate is passed before each turn by whichever worker runs it, 0 to `workers` - 1, or `workers` for the calling thread, with the request's number among those that are admitted and the turns that it has had. Behind the last turn the replies are made, in the order of the items.
 pub fn replay<R: Threads + Sync, G: Gate>(
-    _rt: &R,
+    rt: &R,
     alloc: Global,
     config: &Config,
     programs: &[Arc<Program>],
@@ -44,7 +46,7 @@ pub fn replay<R: Threads + Sync, G: Gate>(
     let owners = owners_of(alloc, recording.records())?;
     let decided = decide_all(alloc, config, owners.as_slice(), arrived)?;
     let connections = recording.connections();
-    Ok(serve_all(alloc, config, programs, connections, decided, gate)?)
+    Ok(serve_all(rt, alloc, config, programs, connections, decided, gate)?)
 }
 
 /// The tenants of all connections, in order.

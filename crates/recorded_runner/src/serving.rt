@@ -1,25 +1,32 @@
-//! Serving all items, one after another, on one berth.
-ghost use Rattle.std.specs.Prelude.{◌≡◌, ℕ, ◌∷◌, [], ◌++◌, ◌≤◌, ◌<◌, List, length, map, IfOk, OnOk};
+//! Serving all items: their requests run by the workers of a batch, and their replies in order.
+ghost use Rattle.std.specs.Prelude.{◌≡◌, ℕ, ◌∷◌, [], ◌++◌, ◌≤◌, ◌<◌, List, length, map, replicate, IfOk, OnOk};
 ghost use Rattle.std.specs.List.{AllByRecursion};
 ghost use Rattle.serve_config.specs.Configuration.{Configuration};
 ghost use Rattle.serve_config.specs.Loaded.{programs_in};
 ghost use Rattle.serve_config.specs.Routing.{all_routes};
 ghost use Rattle.wasm_meaning.specs.Programs.{Program as ProgramValue};
+ghost use Rattle.recorded_runner.specs.Batch.{FirstIs, IsAnswerFor, IsWithinBudgets, behind};
 ghost use Rattle.recorded_runner.specs.Fates.{Decided as DecidedValue};
-ghost use Rattle.recorded_runner.specs.Seen.{decided_seen};
-ghost use Rattle.recorded_runner.specs.Serving.{AreProgramsOf, AreRoomy, IsServable};
+ghost use Rattle.recorded_runner.specs.Seen.{awaited_seen, decided_seen};
+ghost use Rattle.recorded_runner.specs.Serving.{AreProgramsOf, IsServable};
 ghost use Rattle.recorded_runner.specs.Tallies.{IsSmall, IsTallied, IsWritten};
 
-use crate::answering::{Replied, answer};
+use crate::answering::{Replied, reply_next};
+use crate::batching::{Awaited, Batch, batch_of};
 use crate::deciding::Decided;
 use crate::played::{Played, Summary};
 use crate::replies::{Replies, add_reply, no_replies, text_of};
-use memory_pool::Berth;
+use crate::settings::settings_of;
 use outside::Gate;
+use sandbox_states::Answer;
 use serve_config::Config;
 use std::alloc::{AllocError, Global};
+use std::collections::VecDeque;
 use std::sync::Arc;
+use std::thread::Threads;
 use wasm_instance::Program;
+use wasm_meaning::laws::requests_keep_their_verdict;
+use workers::run_batch;
 
 /// The replies so far, connection by connection, and what they took.
 #[derive(Drop)]
@@ -28,8 +35,9 @@ pub(crate) struct Tally {
     summary: Summary,
 }
 
-/// Answers all items in order, on one berth of the largest pages.
-pub(crate) fn serve_all<G: Gate>(
+/// Serves all items: runs the requests of those that are admitted as one batch, and then makes all replies in order.
+pub(crate) fn serve_all<R: Threads + Sync, G: Gate>(
+    rt: &R,
     alloc: Global,
     config: &Config,
     programs: &[Arc<Program>],
@@ -43,75 +51,52 @@ pub(crate) fn serve_all<G: Gate>(
     requires few { length decided.items ≤ 4096 }
     ensures { IfOk result (λ played. IsWritten config.now (programs_in programs.now) connections (map decided_seen decided.items) played) }
 {
-    let mut berth = Berth::new(alloc, largest_pages(config))?;
-    let replies = match no_replies(alloc, connections) {
-        Ok(replies) => replies,
-        Err(fault) => {
-            drop(berth);
-            return Err(fault);
-        }
-    };
+    requests_keep_their_verdict();
+    let _tenants = config.tenants();
+    let Batch { awaited, jobs } = batch_of(alloc, config, programs, decided)?;
+    let answers = run_batch(rt, alloc, jobs, &settings_of(config), gate)?;
+    let mut answers = VecDeque::from_vec(answers);
     let mut tally = Tally {
-        replies,
+        replies: no_replies(alloc, connections)?,
         summary: Summary::nothing(),
     };
-    for item in decided {
-        match serve_next(alloc, config, programs, item, berth, &mut tally, gate) {
-            Ok(back) => berth = back,
-            Err(fault) => {
-                drop(tally);
-                return Err(fault);
-            }
-        }
+    for item in awaited {
+        serve_next(alloc, config, item, &mut answers, &mut tally)?;
     }
-    drop(berth);
     played(alloc, tally)
 }
 
-/// Answers the next item, and adds its reply and what it took.
-fn serve_next<G: Gate>(
+/// Adds the reply to the next item, and what it took.
+fn serve_next(
     alloc: Global,
     config: &Config,
-    programs: &[Arc<Program>],
-    item: Decided,
-    berth: Berth,
+    item: Awaited,
+    answers: &mut VecDeque<Answer>,
     tally: &mut Tally,
-    gate: &G,
-) -> Result<Berth, AllocError>
-    requires programs { AreProgramsOf (all_routes config.now.tenants) (programs_in programs.now) }
-    requires servable { IsServable config.now.tenants (decided_seen item).fate }
+) -> Result<(), AllocError>
+    requires servable { IsServable config.now.tenants (awaited_seen item).fate }
+    requires answered { FirstIs IsWithinBudgets (awaited_seen item).fate answers.old.items }
     requires begun { item.link < length tally.old.replies.items }
-    requires roomy { AreRoomy berth.pages (all_routes config.now.tenants) }
     requires small { IsSmall tally.old.summary }
     requires few { tally.old.summary.requests < 4096 }
-    ensures tallied { (done : List DecidedValue) → IsTallied config.now (programs_in programs.now) done tally.old.replies.items tally.old.summary
-        → OnOk result (IsTallied config.now (programs_in programs.now) (done ++ decided_seen item ∷ []) tally.new.replies.items tally.new.summary) }
+    ensures tallied { (programs : List ProgramValue) (done : List DecidedValue)
+        → FirstIs (IsAnswerFor config.now.tenants programs config.now.quantum) (awaited_seen item).fate answers.old.items
+        → IsTallied config.now programs done tally.old.replies.items tally.old.summary
+        → OnOk result (IsTallied config.now programs (done ++ awaited_seen item ∷ []) tally.new.replies.items tally.new.summary) }
+    ensures left { answers.new.items ≡ behind (awaited_seen item).fate answers.old.items }
     ensures small { OnOk result (IsSmall tally.new.summary) }
     ensures counted { OnOk result (length tally.new.replies.items ≡ length tally.old.replies.items) }
-    ensures berth { IfOk result (λ back. back.pages ≡ berth.pages) }
 {
     let link = item.link;
-    let place = tally.summary.admitted as u32;
     let Replied {
         reply,
         admitted,
         turns,
         units,
-        berth: back,
-    } = match answer(alloc, config, programs, place, item, berth, gate) {
-        Ok(replied) => replied,
-        Err(fault) => return Err(fault),
-    };
-    match add_reply(&mut tally.replies, link, reply.as_slice()) {
-        Ok(()) => {
-            tally.summary = tally.summary.with(admitted, turns, units);
-            Ok(back)
-        }
-        Err(fault) => {
-            drop(back);
-            Err(fault)
-        }
-    }
+    } = reply_next(alloc, config, item, answers)?;
+    add_reply(&mut tally.replies, link, reply.as_slice())?;
+    tally.summary = tally.summary.with(admitted, turns, units);
+    Ok(())
 }
 
 /// What comes of all replies.
@@ -125,17 +110,4 @@ fn played(alloc: Global, tally: Tally) -> Result<Played, AllocError>
         text,
         summary: tally.summary,
     })
-}
-
-/// The pages of the route that has most.
-fn largest_pages(config: &Config) -> u32
-    ensures roomy { AreRoomy result (all_routes config.now.tenants) }
-    ensures some { 1 ≤ result }
-    ensures few { result ≤ 1024 }
-{
-    let mut most = 1;
-    for number in 0..config.route_count() {
-        most = most.max(config.route(number).pages);
-    }
-    most
 }

@@ -1,8 +1,7 @@
-use Rattle.std.proofs.Common.{◌≡◌, length, map}
+use Rattle.std.proofs.Common.{◌≡◌, length, map, drop}
 use Rattle.serve_config.specs.Loaded.{programs_in}
-use Rattle.serve_config.specs.Routing.{all_routes}
-use Rattle.recorded_runner.specs.Seen.{decided_seen}
-use Rattle.recorded_runner.specs.Serving.{AreRoomy}
+use Rattle.recorded_runner.specs.Batch.{AreAnswersFor}
+use Rattle.recorded_runner.specs.Seen.{awaited_seen, decided_seen}
 use Rattle.recorded_runner.specs.Tallies.{IsSmall, IsTallied}
 use Rattle.recorded_runner.proofs.serving.serve_all.Given as goal
 
@@ -10,9 +9,9 @@ abbrev pub invariant-loop-item : goal.invariant-loop-item
 invariant-loop-item g l = record {
   can_next : (goal.iterator-loop-item g).can_next l.item-iterator;
   is_finite : (goal.iterator-loop-item g).is_finite l.item-iterator;
-  roomy : AreRoomy l.berth.pages (all_routes l.config.tenants);
   small : IsSmall l.tally.summary;
   counted : l.tally.summary.requests ≡ length l.yielded;
   connected : length l.tally.replies.items ≡ l.connections;
-  tallied : IsTallied l.config (programs_in l.programs) (map decided_seen l.yielded) l.tally.replies.items l.tally.summary;
+  tallied : IsTallied l.config (programs_in l.programs) (map awaited_seen l.yielded) l.tally.replies.items l.tally.summary;
+  answered : AreAnswersFor l.config.tenants (programs_in l.programs) l.config.quantum (drop (length l.yielded) (map decided_seen l.fn.decided.items)) l.answers.items;
 }

@@ -1,17 +1,17 @@
 -- The fates of items: one item more, and what is known of each.
-use Rattle.std.proofs.Common.{◌≡◌, ◌≢◌, ℕ, zero, suc, ◌+◌, ◌<◌, ◌≤◌, Bool, true, false, ◌==◌, if◌then◌else◌, List, [], ◌∷◌, ◌++◌, length, map, get_or, set, Option, Some, None, slice_get, refl, sym, ap, ap₂, subst, ◌∙◌, arith, append-nil, append_assoc, eq-eqb, eqb-true, ne_eqb, get_or-set_same, get_or-set_other, length-set, true≢false}
+use Rattle.std.proofs.Common.{◌≡◌, ◌≢◌, ℕ, zero, suc, ◌<◌, ◌≤◌, Bool, true, false, ◌==◌, if◌then◌else◌, List, [], ◌∷◌, ◌++◌, length, map, get_or, set, Option, Some, None, refl, sym, ap, ap₂, ◌∙◌, arith, append-nil, append_assoc, eq-eqb, eqb-true, get_or-set_same, get_or-set_other, length-set, true≢false}
 use Rattle.std.proofs.lemmas.List.{length-map}
-use Rattle.std.specs.List.{AllByRecursion, flat_map}
+use Rattle.std.specs.List.{AllByRecursion}
 use Rattle.std.proofs.lemmas.Grind.{flat_map-append}
 use Rattle.admission.specs.Bucket.{Bucket}
-use Rattle.admission.specs.Metering.{Question, ask, behind, behind_all}
+use Rattle.admission.specs.Metering.{Question, behind, behind_all}
 use Rattle.admission.specs.declared.meters.Admission.{Admission}
 use Rattle.admission.specs.declared.meters.Admission.TheVariants.{Entered, Spent}
 use Rattle.http_items.specs.Items.{Heard, Asked, Faulty, IsWithin}
 use Rattle.recorded_arrivals.specs.Arrivals.{Arrived}
 use Rattle.serve_config.specs.declared.tenants.Tenant.{Tenant}
 use Rattle.serve_config.specs.Routing.{HasNumber, all_routes, route_number}
-use Rattle.recorded_runner.specs.Fates.{Fate, Refuses, Admits, Decided, meter_of, no_meter, meter_at_first, asked_for, asked_of, asked_in, meter_behind, fate_by_answer, fate_by_route, fate_of_heard, fate_of, decided_item, decided_behind}
+use Rattle.recorded_runner.specs.Fates.{Decided, meter_of, no_meter, meter_at_first, asked_of, asked_in, meter_behind, fate_by_answer, fate_by_route, fate_of_heard, fate_of, decided_item, decided_behind}
 use Rattle.recorded_runner.specs.Serving.{IsServable}
 use Rattle.recorded_runner.proofs.RouteLaws.{below_some}
 

@@ -1,9 +1,8 @@
 -- A whole replay, from what its phases answer.
-use Rattle.std.proofs.Common.{◌≡◌, ℕ, ◌<◌, ◌≤◌, Bool, false, List, [], ◌∷◌, ◌++◌, length, refl, sym, ap, subst, ◌∙◌, arith}
+use Rattle.std.proofs.Common.{◌≡◌, ℕ, ◌<◌, ◌≤◌, List, [], ◌∷◌, ◌++◌, length, ap, ◌∙◌}
 use Rattle.std.proofs.lemmas.Bool.{le-ltb}
 use Rattle.std.specs.List.{AllByRecursion}
 use Rattle.recorded_arrivals.specs.Arrivals.{arrivals}
-use Rattle.recorded_arrivals.specs.Limits.{has_too_many}
 use Rattle.recording_format.specs.declared.records.Event.{Event}
 use Rattle.recording_format.specs.declared.records.Event.TheVariants.{Begins, Arrives, Closes}
 use Rattle.recording_format.specs.declared.records.Record.{Record}

@@ -1,5 +1,5 @@
 -- Requests that are served: the job that each is, and what its answer makes of its item.
-use Rattle.std.proofs.Common.{◌≡◌, ℕ, zero, suc, ◌≤◌, ◌^◌, List, [], ◌∷◌, Option, Some, None, slice_get, option_map, option_and_then, refl, sym, ap, ◌∙◌, arith}
+use Rattle.std.proofs.Common.{◌≡◌, ℕ, zero, suc, ◌≤◌, List, [], ◌∷◌, Option, Some, None, slice_get, option_map, option_and_then, refl, sym, ap, ◌∙◌, arith}
 use Rattle.std.specs.List.{AllByRecursion}
 use Rattle.http_front.specs.Reply.{reply_of}
 use Rattle.http_front.specs.Reported.{Reported, RefusedAs}

@@ -1,16 +1,16 @@
 -- One item more is answered.
-use Rattle.std.proofs.Common.{◌≡◌, ◌≢◌, ℕ, zero, suc, ◌+◌, ◌<◌, ◌≤◌, Bool, true, false, ◌==◌, if◌then◌else◌, List, [], ◌∷◌, ◌++◌, length, get_or, set, replicate, sum_by, refl, sym, ap, ap₂, subst, ◌∙◌, arith, append-nil, get_or-set_same, get_or-set_other, length-set, eqb-true, eq-eqb, true≢false}
+use Rattle.std.proofs.Common.{◌≡◌, ◌≢◌, ℕ, zero, suc, ◌+◌, ◌<◌, Bool, true, false, ◌==◌, if◌then◌else◌, List, [], ◌∷◌, ◌++◌, length, get_or, set, replicate, sum_by, refl, sym, ap, ap₂, ◌∙◌, arith, append-nil, get_or-set_same, get_or-set_other, eqb-true, eq-eqb, true≢false}
 use Rattle.std.proofs.lemmas.Grind.{flat_map-append}
 use Rattle.std.proofs.lemmas.List.{length_push}
 use Rattle.std.proofs.lemmas.List.Sums.{sum_by-append}
 use Rattle.serve_config.specs.declared.tenants.Tenant.{Tenant}
 use Rattle.serve_config.specs.Configuration.{Configuration}
 use Rattle.wasm_meaning.specs.Programs.{Program}
-use Rattle.wasm_meaning.specs.Requests.{Request, units}
+use Rattle.wasm_meaning.specs.Requests.{units}
 use Rattle.recorded_runner.specs.Fates.{Decided}
 use Rattle.recorded_runner.specs.Joined.{joined_from}
 use Rattle.recorded_runner.specs.Replies.{reply_to}
-use Rattle.recorded_runner.specs.ReplayText.{answers_magic, replies_on, texts_from}
+use Rattle.recorded_runner.specs.ReplayText.{answers_magic, replies_on}
 use Rattle.recorded_runner.specs.Summaries.{admitted_in, cost_in, turns_in, summary_over}
 use Rattle.recorded_runner.specs.Tallies.{IsTallied, IsWritten}
 use Rattle.recorded_runner.specs.declared.played.Played.{Played}

@@ -1,5 +1,5 @@
 -- The text of a replay: on what it depends, and how it comes from a list of replies.
-use Rattle.std.proofs.Common.{◌≡◌, ℕ, zero, suc, ◌+◌, ◌<◌, List, [], ◌∷◌, ◌++◌, length, get_or, refl, sym, ap, ap₂, ◌∙◌, arith}
+use Rattle.std.proofs.Common.{◌≡◌, ℕ, suc, ◌+◌, List, [], ◌∷◌, ◌++◌, length, get_or, refl, sym, ap, ap₂, ◌∙◌, arith}
 use Rattle.recording_format.specs.declared.records.Record.{Record}
 use Rattle.recording_format.specs.Connections.{tenants_of}
 use Rattle.serve_config.specs.declared.tenants.Tenant.{Tenant}
@@ -9,7 +9,6 @@ use Rattle.recorded_runner.specs.Fates.{decided}
 use Rattle.recorded_runner.specs.Joined.{joined_from}
 use Rattle.recorded_runner.specs.ReplayText.{answers_magic, connection_text, replies_on, texts_from, replay_text}
 use Rattle.recorded_runner.specs.Summaries.{summary_over, summary_of}
-use Rattle.recorded_runner.specs.declared.played.Summary.{Summary}
 
 text_of_tenants : List Program → List Record → List Tenant → List ℕ
 text_of_tenants programs records tenants =

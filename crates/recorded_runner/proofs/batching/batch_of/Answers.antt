@@ -1,9 +1,8 @@
-use Rattle.std.proofs.Common.{◌≡◌, ℕ, List, [], ◌∷◌, ◌++◌, length, map, refl, sym, ap, ap₂, subst, ◌∙◌, arith}
+use Rattle.std.proofs.Common.{◌≡◌, List, [], ◌∷◌, ◌++◌, length, map, sym, ap, ap₂, subst, ◌∙◌, arith}
 use Rattle.std.proofs.lemmas.List.{length-map, map-append}
 use Rattle.std.proofs.lemmas.Iterator.Adapters.{YieldsList-from_vec}
 use Rattle.std.proofs.lemmas.Iterator.Consumers.{YieldsList-turn}
 use Rattle.std.specs.Arc.{arc_value}
-use Rattle.sandbox_states.specs.Views.{AdmittedView}
 use Rattle.serve_config.specs.Loaded.{programs_in}
 use Rattle.serve_config.specs.Routing.{all_routes}
 use Rattle.recorded_runner.specs.Batch.{IsJobOf, AreJobsOf}

@@ -1,8 +1,7 @@
-use Rattle.std.proofs.Common.{◌≡◌, ◌<◌, List, ℕ, Some, slice_get, sym, ap, ap₂, ◌∙◌, arith}
+use Rattle.std.proofs.Common.{◌≡◌, List, ℕ, Some, slice_get, sym, ap, ap₂, ◌∙◌, arith}
 use Rattle.std.specs.Arc.{arc_value}
 use Rattle.sandbox_states.specs.Views.{AdmittedView}
 use Rattle.serve_config.specs.Loaded.{programs_in}
-use Rattle.serve_config.specs.Routing.{all_routes}
 use Rattle.wasm_meaning.specs.HostCalls.{Streams}
 use Rattle.wasm_meaning.specs.Programs.{Program}
 use Rattle.recorded_runner.proofs.RouteLaws.{mapped_at, read_some, request_made, job_made}

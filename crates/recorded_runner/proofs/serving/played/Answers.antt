@@ -1,4 +1,4 @@
-use Rattle.std.proofs.Common.{◌++◌, List, ap, refl, ◌∙◌}
+use Rattle.std.proofs.Common.{◌++◌, ap, refl, ◌∙◌}
 use Rattle.recorded_runner.specs.Joined.{joined_from}
 use Rattle.recorded_runner.specs.ReplayText.{answers_magic}
 use Rattle.recorded_runner.proofs.TallyLaws.{written}

@@ -1,4 +1,4 @@
-use Rattle.std.proofs.Common.{◌≡◌, ◌∙◌}
+use Rattle.std.proofs.Common.{◌∙◌}
 use Rattle.recorded_runner.specs.Seen.{awaited_seen}
 use Rattle.recorded_runner.specs.Serving.{IsReplyTo}
 use Rattle.recorded_runner.proofs.TallyLaws.{one_more}

@@ -1,4 +1,5 @@
-use Rattle.std.proofs.Common.{◌≡◌, ℕ, ◌≤◌, Some, slice_get, sym, ap, ◌∙◌, arith, below_more}
+use Rattle.std.proofs.Common.{◌≡◌, ℕ, ◌≤◌, max, Some, slice_get, sym, ◌∙◌, arith, below_more}
+use Rattle.std.proofs.lemmas.Grind.{common_steps}
 use Rattle.serve_config.specs.declared.tenants.Route.{Route}
 use Rattle.serve_config.specs.Routing.{all_routes}
 use Rattle.recorded_runner.proofs.RouteLaws.{has_room, larger_has_room, roomy_all, below_some}
@@ -18,14 +19,14 @@ pub loop-number-preserved : goal.loop-number-preserved
 loop-number-preserved c =
     let config = c.args.config.now in
     let pages = c.max-most.result in
-    let own : c.route.result.now.pages ≤ pages = omega (arith, c.max-most.ensures) in
+    let larger : pages ≡ max c.loop-number.most c.route.result.now.pages = grind (arith, common_steps, c.max-most.ensures) in
+    let own : c.route.result.now.pages ≤ pages = omega (arith, larger) in
     record {
-      some = omega (arith, c.max-most.ensures, c.loop-number.invariant.some);
-      room = larger_has_room config.berths c.loop-number.most c.route.result.now.pages pages c.max-most.ensures c.loop-number.invariant.room (has_room config.berths config.tenants c.loop-number.number c.route.result.now c.tenants-tenants.ensures.fits c.route.ensures.is);
-      below =
-          below_more (λ (k : ℕ). (r : Route) → slice_get (all_routes config.tenants) k ≡ Some r → r.pages ≤ pages) c.loop-number.number
-          (λ k lt r is. omega (arith, c.loop-number.invariant.below k r lt is, c.max-most.ensures))
-          (λ r is. omega (arith, own, some_same r c.route.result.now (sym is ∙ c.route.ensures.is)));
+      some = omega (arith, larger, c.loop-number.invariant.some);
+      room = larger_has_room config.berths c.loop-number.most c.route.result.now.pages pages larger c.loop-number.invariant.room (has_room config.berths config.tenants c.loop-number.number c.route.result.now c.tenants-tenants.ensures.fits c.route.ensures.is);
+      below = λ k r lt is. below_more (λ (n : ℕ). (q : Route) → slice_get (all_routes config.tenants) n ≡ Some q → q.pages ≤ pages) c.loop-number.number
+          (λ n less q has. omega (arith, c.loop-number.invariant.below n q less has, larger))
+          (λ q has. omega (arith, own, some_same q c.route.result.now (sym has ∙ c.route.ensures.is))) k lt r is;
     }
 
 pub returns-clause-roomy : goal.returns-clause-roomy

@@ -36,8 +36,11 @@ pub(crate) fn reply_next(
 ) -> Result<Replied, AllocError>
     requires servable { IsServable config.now.tenants (awaited_seen item).fate }
     requires answered { FirstIs IsWithinBudgets (awaited_seen item).fate answers.old.items }
-    ensures replied { (programs : List Program) → FirstIs (IsAnswerFor config.now.tenants programs config.now.quantum) (awaited_seen item).fate answers.old.items
-        → IfOk result (λ r. IsReplyTo config.now programs (awaited_seen item) r.reply.items r.admitted r.turns r.units) }
+    ensures replied { (programs : List Program)
+        → FirstIs (IsAnswerFor config.now.tenants programs config.now.quantum)
+        (awaited_seen item).fate answers.old.items
+        → IfOk result (λ r. IsReplyTo config.now programs (awaited_seen item)
+        r.reply.items r.admitted r.turns r.units) }
     ensures few { IfOk result (λ r. (r.admitted ≤ 1) × ((r.turns ≤ 2 ^ 40 + 1) × (r.units ≤ 2 ^ 40))) }
     ensures left { answers.new.items ≡ behind (awaited_seen item).fate answers.old.items }
 {
@@ -91,7 +94,8 @@ fn reply_to_answer(
     keep: bool,
 ) -> Result<Vec<u8>, AllocError>
     requires known { route < length (all_routes config.now.tenants) }
-    ensures { IfOk result (λ reply. reply.items ≡ reply_of (reported_verdict answer.now.verdict) (of_member (λ r. r.content_type) [] (all_routes config.now.tenants) route) head keep) }
+    ensures { IfOk result (λ reply. reply.items ≡ reply_of (reported_verdict answer.now.verdict)
+        (of_member (λ r. r.content_type) [] (all_routes config.now.tenants) route) head keep) }
 {
     let content_type = config.route(route).content_type.as_str();
     reply_text(alloc, outcome(answer), content_type, head, keep)

@@ -1,5 +1,5 @@
 //! The requests of a batch, and the items whose replies await their answers.
-ghost use Rattle.std.specs.Prelude.{◌≡◌, ◌+◌, ◌^◌, ◌≤◌, ◌<◌, length, map, IfOk, OnOk};
+ghost use Rattle.std.specs.Prelude.{◌≡◌, ◌≤◌, ◌<◌, length, map, IfOk, OnOk};
 ghost use Rattle.std.specs.List.{AllByRecursion};
 ghost use Rattle.serve_config.specs.Loaded.{programs_in};
 ghost use Rattle.serve_config.specs.Routing.{all_routes};
@@ -60,10 +60,13 @@ pub(crate) fn batch_of(
     decided: Vec<Decided>,
 ) -> Result<Batch, AllocError>
     requires programs { AreProgramsOf (all_routes config.now.tenants) (programs_in programs.now) }
-    requires servable { AllByRecursion (λ (d : DecidedValue). IsServable config.now.tenants d.fate) (map decided_seen decided.items) }
+    requires servable { AllByRecursion (λ (d : DecidedValue). IsServable config.now.tenants d.fate)
+        (map decided_seen decided.items) }
     requires few { length decided.items ≤ 4096 }
-    ensures seen { IfOk result (λ batch. map awaited_seen batch.awaited.items ≡ map decided_seen decided.items) }
-    ensures jobs { IfOk result (λ batch. AreJobsOf config.now.tenants (programs_in programs.now) (map decided_seen decided.items) batch.jobs.items) }
+    ensures seen { IfOk result
+        (λ batch. map awaited_seen batch.awaited.items ≡ map decided_seen decided.items) }
+    ensures jobs { IfOk result (λ batch. AreJobsOf config.now.tenants (programs_in programs.now)
+        (map decided_seen decided.items) batch.jobs.items) }
     ensures numbered { IfOk result (λ batch. AreNumbered batch.jobs.items) }
 {
     let mut awaited = Vec::with_capacity(alloc, decided.len())?;
@@ -86,7 +89,8 @@ fn add_job(
     requires servable { IsServable config.now.tenants (fate_seen item.fate) }
     requires few { length jobs.old.items < 4096 }
     ensures seen { IfOk result (λ awaited. awaited_seen awaited ≡ decided_seen item) }
-    ensures jobs { OnOk result (AddsJobOf config.now.tenants (programs_in programs.now) (fate_seen item.fate) jobs.old.items jobs.new.items) }
+    ensures jobs { OnOk result (AddsJobOf config.now.tenants (programs_in programs.now)
+        (fate_seen item.fate) jobs.old.items jobs.new.items) }
 {
     let Decided {
         link,

@@ -23,7 +23,8 @@ pub(crate) fn job_of(
     requires known { entry.route < length (all_routes config.now.tenants) }
     requires each { length programs.now ≡ length (all_routes config.now.tenants) }
     requires fits { length entry.body.items ≤ 2 ^ 20 }
-    ensures job { IfOk result (IsJobOf config.now.tenants (programs_in programs.now) entry.route entry.body.items) }
+    ensures job { IfOk result
+        (IsJobOf config.now.tenants (programs_in programs.now) entry.route entry.body.items) }
     ensures place { IfOk result (λ job. job.place ≡ place) }
 {
     let Entry {

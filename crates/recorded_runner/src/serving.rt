@@ -1,5 +1,5 @@
 //! Serving all items: their requests run by the workers of a batch, and their replies in order.
-ghost use Rattle.std.specs.Prelude.{◌≡◌, ℕ, ◌∷◌, [], ◌++◌, ◌≤◌, ◌<◌, List, length, map, replicate, IfOk, OnOk};
+ghost use Rattle.std.specs.Prelude.{◌≡◌, ◌∷◌, [], ◌++◌, ◌≤◌, ◌<◌, List, length, map, IfOk, OnOk};
 ghost use Rattle.std.specs.List.{AllByRecursion};
 ghost use Rattle.serve_config.specs.Configuration.{Configuration};
 ghost use Rattle.serve_config.specs.Loaded.{programs_in};
@@ -46,10 +46,13 @@ pub(crate) fn serve_all<R: Threads + Sync, G: Gate>(
     gate: &G,
 ) -> Result<Played, AllocError>
     requires programs { AreProgramsOf (all_routes config.now.tenants) (programs_in programs.now) }
-    requires servable { AllByRecursion (λ (d : DecidedValue). IsServable config.now.tenants d.fate) (map decided_seen decided.items) }
-    requires begun { AllByRecursion (λ (d : DecidedValue). d.link < connections) (map decided_seen decided.items) }
+    requires servable { AllByRecursion (λ (d : DecidedValue). IsServable config.now.tenants d.fate)
+        (map decided_seen decided.items) }
+    requires begun { AllByRecursion (λ (d : DecidedValue). d.link < connections)
+        (map decided_seen decided.items) }
     requires few { length decided.items ≤ 4096 }
-    ensures { IfOk result (λ played. IsWritten config.now (programs_in programs.now) connections (map decided_seen decided.items) played) }
+    ensures { IfOk result
+        (λ played. IsWritten config.now (programs_in programs.now) connections (map decided_seen decided.items) played) }
 {
     requests_keep_their_verdict();
     let _tenants = config.tenants();
@@ -80,9 +83,11 @@ fn serve_next(
     requires small { IsSmall tally.old.summary }
     requires few { tally.old.summary.requests < 4096 }
     ensures tallied { (programs : List ProgramValue) (done : List DecidedValue)
-        → FirstIs (IsAnswerFor config.now.tenants programs config.now.quantum) (awaited_seen item).fate answers.old.items
+        → FirstIs (IsAnswerFor config.now.tenants programs config.now.quantum)
+        (awaited_seen item).fate answers.old.items
         → IsTallied config.now programs done tally.old.replies.items tally.old.summary
-        → OnOk result (IsTallied config.now programs (done ++ awaited_seen item ∷ []) tally.new.replies.items tally.new.summary) }
+        → OnOk result (IsTallied config.now programs (done ++ awaited_seen item ∷ [])
+        tally.new.replies.items tally.new.summary) }
     ensures left { answers.new.items ≡ behind (awaited_seen item).fate answers.old.items }
     ensures small { OnOk result (IsSmall tally.new.summary) }
     ensures counted { OnOk result (length tally.new.replies.items ≡ length tally.old.replies.items) }

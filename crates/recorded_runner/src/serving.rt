@@ -55,6 +55,7 @@ pub(crate) fn serve_all<R: Threads + Sync, G: Gate>(
         (λ played. IsWritten config.now (programs_in programs.now) connections (map decided_seen decided.items) played) }
 {
     requests_keep_their_verdict();
+    // The ranges that each configuration keeps bound the budgets, and so the units.
     let _tenants = config.tenants();
     let Batch { awaited, jobs } = batch_of(alloc, config, programs, decided)?;
     let answers = run_batch(rt, alloc, jobs, &settings_of(config), gate)?;

@@ -31,6 +31,7 @@ fn largest_pages(config: &Config) -> u32
     ensures some { 1 ≤ result }
     ensures room { (config.now.berths + 1) * result ≤ 16384 }
 {
+    // What each configuration keeps bounds the berths and their pages.
     let _tenants = config.tenants();
     let mut most = 1;
     for number in 0..config.route_count() {

@@ -18,7 +18,8 @@ import tempfile
 TOP = os.path.join(os.path.dirname(os.path.abspath(__file__)), "..")
 SCRIPT = os.path.join(TOP, "sledge")
 PROGRAM = os.path.join(TOP, "crates", "sledge", "out", "sledge")
-RUNS = 7
+# The least of few runs scatters: the longer a run is, the more seldom nothing else on the machine disturbs it.
+RUNS = 60
 MOST_BYTES = 4 << 20
 # Room for the header, the other sections, and the ids and sizes of the long ones.
 ROOM = 128
@@ -93,9 +94,17 @@ def used(folder, content):
     return (usage.ru_utime + usage.ru_stime) * 1000, usage.ru_maxrss / 1024
 
 
-def least_time(folder, content):
-    """The least time of several runs on a module with these bytes, in milliseconds."""
-    return min(used(folder, content)[0] for _ in range(RUNS))
+def least_times(folder, contents):
+    """The least time of several runs on each of these modules, in milliseconds. The modules take turns, so that what
+    else the machine does falls on all of them alike."""
+    rounds = [[used(folder, content)[0] for content in contents] for _ in range(RUNS)]
+    return [min(times) for times in zip(*rounds)]
+
+
+def compared(folder, half, whole):
+    """The least times on two modules, each without that of a file which is the header alone, in milliseconds."""
+    start, one, two = least_times(folder, [HEADER, half, whole])
+    return max(one - start, 0.001), max(two - start, 0.001)
 
 
 def resident_memory(folder, content):
@@ -108,13 +117,11 @@ def main():
     with tempfile.TemporaryDirectory() as folder:
         with open(os.path.join(folder, "body"), "wb"):
             pass
-        start = least_time(folder, HEADER)
-        print(f"the header alone: {start:.1f} ms")
         for name, module in KINDS:
             half, whole = module(MOST_BYTES // 2), module(MOST_BYTES)
             assert MOST_BYTES - 1024 < len(whole) <= MOST_BYTES, len(whole)
-            times = [max(least_time(folder, content) - start, 0.001) for content in (half, whole)]
-            print(f"{name}: {len(half)} bytes {times[0]:.1f} ms, {len(whole)} bytes {times[1]:.1f} ms, ratio {times[1] / times[0]:.2f}")
+            one, two = compared(folder, half, whole)
+            print(f"{name}: {len(half)} bytes {one:.1f} ms, {len(whole)} bytes {two:.1f} ms, ratio {two / one:.2f}")
         content = all_nop(MOST_BYTES)
         print(f"one body of nop: {len(content)} bytes, {resident_memory(folder, content):.0f} MiB resident")
 

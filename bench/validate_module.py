@@ -7,7 +7,7 @@ For each kind of module it prints both times in milliseconds and their ratio. Wh
 ratio is 2; the names of exports stand in an ordered set, whose steps grow with its size, so that theirs is somewhat more. Where
 they are quadratic it is 4, and one above 2.3 is told as a failure. A time is the least processor time of several runs, without
 that of a file which is the header alone. The modules are valid and export no `_start`, so they are not run: each run has to end
-with `module 53 0 0` and exit status 5. A machine that does other things besides tells more than 2 where its caches are shared.
+with `module 53 0 0` and exit status 5. Where other programs use the caches of the machine too, ratios scatter, and a machine that is quiet tells more.
 """
 
 import subprocess
@@ -95,12 +95,10 @@ def main():
     with tempfile.TemporaryDirectory() as folder:
         with open(f"{folder}/body", "wb"):
             pass
-        start = read_module.least_time(folder, HEADER)
-        print(f"the header alone: {start:.1f} ms")
         for name, module in KINDS:
             half, whole = module(MOST_BYTES // 2), module(MOST_BYTES)
             assert len(whole) <= MOST_BYTES, len(whole)
-            one, two = (read_module.least_time(folder, content) - start for content in (half, whole))
+            one, two = read_module.compared(folder, half, whole)
             failed += two / one > GREATEST_RATIO
             print(f"{name}: {one:.1f} ms for {len(half)} bytes, {two:.1f} ms for {len(whole)}, ratio {two / one:.2f}")
     return failed != 0

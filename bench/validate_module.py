@@ -7,7 +7,7 @@ For each kind of module it prints both times in milliseconds and their ratio. Wh
 ratio is 2; the names of exports stand in an ordered set, whose steps grow with its size, so that theirs is somewhat more. Where
 they are quadratic it is 4, and one above 2.3 is told as a failure. A time is the least processor time of several runs, without
 that of a file which is the header alone. The modules are valid and export no `_start`, so they are not run: each run has to end
-with `module 53 0 0` and exit status 5. Where other programs use the caches of the machine too, ratios scatter, and a machine that is quiet tells more.
+with `module 53 0 0` and exit status 5. Ratios scatter from run to run, that of many exports most.
 """
 
 import subprocess

@@ -1,41 +1,91 @@
 //! Exports, whose names differ (WebAssembly Core 1.0, section 3.4.10).
-ghost use Rattle.std.specs.Prelude.{◌≡◌, ◌<◌, ◌^◌, length};
+ghost use Rattle.std.specs.Prelude.{◌≡◌, ◌<◌, ◌^◌, length, IfOk};
 ghost use Rattle.wasm_meaning.specs.Validity.{next_export_rule, exports_walk as exports_due};
 ghost use Rattle.wasm_meaning.specs.ValidityChecks.{each_item};
 ghost use Rattle.wasm_ops.specs.WellFormed.{IsWellFormed};
-ghost use Rattle.wasm_validate.specs.Names.{first_bytes_of};
+ghost use Rattle.wasm_typing.specs.Outcome.{Tells};
+ghost use Rattle.wasm_validate.specs.Names.{fingerprint_of, are_twins, AreKeys, IsFirstUsed, IsLeastTwin};
 ghost use Rattle.wasm_validate.specs.Outcome.{Gives};
 
 use crate::faults::ValidFault;
 use crate::rules::{export_rule, outside};
-use std::alloc::Global;
-use std::collections::BTreeSet;
+use std::alloc::{AllocError, Global};
+use wasm_meaning::Broken;
 use wasm_ops::Export;
 use wasm_typing::Indexed;
 
-// The first eight bytes of a name, as one number.
-fn first_bytes(name: &str) -> u64
-    ensures { result ≡ first_bytes_of name.now }
+// What the hash FNV-1a of 64 bits begins with, and multiplies by.
+const OFFSET_BASIS: u64 = 14695981039346656037;
+
+const PRIME: u64 = 1099511628211;
+
+// What a name is sorted by: its number, the name, and the place of its export. The number tells most names apart. To look into the names themselves, which lie all over the memory, would take more time than all else.
+type Key<'a> = (u64, &'a str, u32);
+
+// The hash FNV-1a of the name.
+fn fingerprint(name: &str) -> u64
+    ensures { result ≡ fingerprint_of name.now }
 {
-    name.bytes()
-        .take(8)
-        .fold(0, |number: u64, byte| number << 8 | u64::from(byte))
+    name.bytes().fold(OFFSET_BASIS, |number: u64, byte| {
+        (number ^ u64::from(byte)).wrapping_mul(PRIME)
+    })
 }
 
-// The names so far stand in a set, so that each is compared with few others. Each has its first bytes beside it, which tell most names apart: to look into the names themselves, which lie all over the memory, is what takes the time.
-fn all_exports(alloc: Global, whole: &Indexed, exports: &[Export]) -> Result<(), ValidFault>
+fn keys_of<'a>(alloc: Global, exports: &'a [Export]) -> Result<Vec<Key<'a>>, AllocError>
     requires few { length exports.now < 2 ^ 32 }
-    ensures { Gives (λ u. u) result (each_item (next_export_rule whole.now) exports.now) }
+    ensures { IfOk result (λ keys. AreKeys exports.now keys.items) }
 {
-    let mut names = BTreeSet::new(alloc);
-    let mut item = 0;
+    let mut keys = Vec::with_capacity(alloc, exports.len())?;
+    let mut place = 0;
     for export in exports {
         let name = export.name.as_str();
-        let is_new = names.insert((first_bytes(name), name))?;
-        match export_rule(whole, !is_new, export) {
-            Some(rule) => return Err(ValidFault::Rule(outside(rule, item))),
-            None => item += 1,
+        keys.push((fingerprint(name), name, place))?;
+        place += 1;
+    }
+    Ok(keys)
+}
+
+fn are_twins(one: &Key<'_>, other: &Key<'_>) -> bool
+    ensures { result ≡ are_twins one.now other.now }
+{
+    one.0 == other.0 && one.1 == other.1
+}
+
+fn least_twin(keys: &[Key<'_>]) -> Option<u32>
+    ensures { IsLeastTwin keys.now result }
+{
+    let mut least: Option<u32> = None;
+    for behind in 1..keys.len() {
+        let key = &keys[behind];
+        if are_twins(&keys[behind - 1], key) {
+            least = Some(least.unwrap_or(key.2).min(key.2));
         }
+    }
+    least
+}
+
+// The place of the first export that has the name of one before it. Names that are equal stand beside each other once they are sorted, so that none is compared with all others.
+fn first_used(alloc: Global, exports: &[Export]) -> Result<Option<u32>, AllocError>
+    requires few { length exports.now < 2 ^ 32 }
+    ensures { IfOk result (λ first. IsFirstUsed exports.now first) }
+{
+    let mut keys = keys_of(alloc, exports)?;
+    keys.sort_unstable();
+    Ok(least_twin(keys.as_slice()))
+}
+
+// The first export that breaks a rule.
+fn all_exports(whole: &Indexed, exports: &[Export], used: Option<u32>) -> Result<(), Broken>
+    requires few { length exports.now < 2 ^ 32 }
+    requires used { IsFirstUsed exports.now used }
+    ensures { Tells (λ u. u) result (each_item (next_export_rule whole.now) exports.now) }
+{
+    let mut item = 0;
+    for export in exports {
+        if let Some(rule) = export_rule(whole, used == Some(item), export) {
+            return Err(outside(rule, item));
+        }
+        item += 1;
     }
     Ok(())
 }
@@ -45,5 +95,8 @@ pub(crate) fn exports_walk(alloc: Global, whole: &Indexed) -> Result<(), ValidFa
     requires formed { IsWellFormed whole.now }
     ensures { Gives (λ u. u) result (exports_due whole.now) }
 {
-    all_exports(alloc, whole, whole.module().exports.as_slice())
+    let exports = whole.module().exports.as_slice();
+    let used = first_used(alloc, exports)?;
+    all_exports(whole, exports, used)?;
+    Ok(())
 }

@@ -30,6 +30,23 @@ FIXED_IMPORT, MUTABLE_IMPORT = "01 61 01 67 03 7E 00", "01 61 01 68 03 7F 01"
 TABLE, MEMORY, FIXED, MUTABLE = "70 00 01", "00 01", "7F 00 41 00 0B", "7F 01 41 00 0B"
 
 
+# Names that the hash FNV-1a of 64 bits gives the same number, by which the validator tells names apart.
+SAME_HASH = [b"8yn0iYCKYHlIj4-BwPqk", b"GReLUrM4wMqfg9yzV3KQ"]
+
+
+def fnv_1a(name):
+    number = 14695981039346656037
+    for byte in name:
+        number = (number ^ byte) * 1099511628211 % 2**64
+    return number
+
+
+# FNV's own test vectors for the empty name, "a" and "foobar".
+assert [fnv_1a(name) for name in (b"", b"a", b"foobar")] == [0xCBF29CE484222325, 0xAF63DC4C8601EC8C, 0x85944171F73967E8]
+assert fnv_1a(SAME_HASH[0]) == fnv_1a(SAME_HASH[1])
+ONE_NUMBER = [f"{len(name):02X} {name.hex(' ')} 00 00" for name in SAME_HASH]
+
+
 def broken(rule, item, function=None):
     return f"broken {rule} {'-' if function is None else function} {item}"
 
@@ -94,6 +111,11 @@ LISTS = [
     (module(bodies=[""], exports=["01 61 00 00", "01 62 00 07", "01 61 00 00"]), broken(30, 1)),
     (module(bodies=[""], exports=["01 61 00 00", "01 61 00 00", "01 62 00 07"]), broken(37, 1)),
     (module(bodies=[""], exports=["01 61 00 00", "01 61 00 07"]), broken(30, 1)),
+    # names that differ, with one number: these alone, and before and behind a name that stands twice
+    (module(bodies=[""], exports=ONE_NUMBER), valid((0, 0))),
+    (module(bodies=[""], exports=ONE_NUMBER + ["00 00 00", "00 00 00"]), broken(37, 3)),
+    (module(bodies=[""], exports=["00 00 00"] + ONE_NUMBER + ["01 61 00 00"] + ONE_NUMBER[::-1]), broken(37, 4)),
+    (module(bodies=[""], exports=ONE_NUMBER + ["01 61 00 01"]), broken(30, 2)),
     (module(bodies=[""], start="00"), valid((0, 0))),
     (module(bodies=[""], start="01"), broken(30, 0)),
     (module(imports=[FUNCTION_IMPORT], start="00"), valid()),

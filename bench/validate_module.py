@@ -4,10 +4,10 @@
     validate_module.py       builds the program where it is not built, by the script `sledge` at the top
 
 For each kind of module it prints both times in milliseconds and their ratio. Where reading and checking are linear, the
-ratio is 2; the names of exports stand in an ordered set, whose steps grow with its size, so that theirs is somewhat more. Where
-they are quadratic it is 4, and one above 2.3 is told as a failure. A time is the least processor time of several runs, without
-that of a file which is the header alone. The modules are valid and export no `_start`, so they are not run: each run has to end
-with `module 53 0 0` and exit status 5. Ratios scatter from run to run, that of many exports most.
+ratio is 2; the names of exports are sorted, in steps that grow a little faster than their number, so that theirs is somewhat
+more. Where they are quadratic it is 4, and one above 2.3 is told as a failure. A time is the least processor time of several
+runs, without that of a file which is the header alone. The modules are valid and export no `_start`, so they are not run: each
+run has to end with `module 53 0 0` and exit status 5.
 """
 
 import subprocess
@@ -46,13 +46,23 @@ def high_stack(size):
     return one_body(CONST_AND_DROP[:2] * count + CONST_AND_DROP[2:] * count)
 
 
-def many_exports(size):
-    """Exports of one global, by names of their own of four letters."""
+def exports(size, prefix=b"", more=()):
+    """Exports of one global, by names of their own: the prefix and four letters, and then these."""
     letters = b"abcdefghijklmnopqrstuvwxyz012345"
-    count = (size - ROOM) // 7
-    names = (bytes(letters[place >> shift & 31] for shift in (0, 5, 10, 15)) for place in range(count))
-    exports = b"".join(sized(name) + b"\x03\x00" for name in names)
-    return HEADER + section(6, bytes.fromhex("01 7F 00 41 00 0B")) + section(7, number(count) + exports)
+    count = (size - ROOM - sum(len(name) + 3 for name in more)) // (len(prefix) + 7)
+    names = [prefix + bytes(letters[place >> shift & 31] for shift in (0, 5, 10, 15)) for place in range(count)] + list(more)
+    items = b"".join(sized(name) + b"\x03\x00" for name in names)
+    return HEADER + section(6, bytes.fromhex("01 7F 00 41 00 0B")) + section(7, number(len(names)) + items)
+
+
+def long_names(size):
+    """Names that begin alike, so that the first bytes tell none from another."""
+    return exports(size, b"function_of_the_module_")
+
+
+def names_of_one_hash(size):
+    """Two names among the others that have one hash (FNV-1a of 64 bits), by which the validator tells names apart."""
+    return exports(size, more=[b"8yn0iYCKYHlIj4-BwPqk", b"GReLUrM4wMqfg9yzV3KQ"])
 
 
 def branch_tables(size):
@@ -81,7 +91,9 @@ KINDS = [
     ("many functions", many_functions),
     ("one long body", long_body),
     ("a high operand list", high_stack),
-    ("many exports", many_exports),
+    ("many exports", exports),
+    ("exports of long names", long_names),
+    ("exports, two of one hash", names_of_one_hash),
     ("tables of 4,096 labels", branch_tables),
     ("deep blocks", deep_blocks),
     ("branches out of 999 blocks", far_labels),

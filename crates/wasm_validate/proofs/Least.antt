@@ -5,7 +5,8 @@ use Rattle.std.proofs.Math.Seq.{get_or-append_seam}
 use Rattle.std.proofs.lemmas.Bool.{cases_lt}
 use Rattle.std.proofs.lemmas.List.{get_or_default, get_or-take, length-append, length-take-le, take_all}
 use Rattle.wasm_ops.specs.declared.modules.Export.{Export}
-use Rattle.wasm_validate.specs.Names.{Key, IsKey, AreKeys, are_twins, IsLeastTwin, IsLeastTwinBelow}
+use Rattle.wasm_validate.specs.declared.exports.Key.{Key}
+use Rattle.wasm_validate.specs.Names.{IsKey, AreKeys, are_twins, IsLeastTwin, IsLeastTwinBelow}
 
 -- two keys beside each other, read at any default
 pub beside
@@ -45,7 +46,7 @@ least_stays n keys (Some least) ((k, lt, twins), below) some apart = (
 -- it is one
 pub least_changes
     : (n : ℕ) (keys : List Key) (least : Option ℕ) (place : ℕ) → IsLeastTwinBelow n keys least → 1 ≤ n
-    → ((d : Key) → (are_twins (get_or keys (n - 1) d) (get_or keys n d) ≡ true) × ((get_or keys n d).2 ≡ place))
+    → ((d : Key) → (are_twins (get_or keys (n - 1) d) (get_or keys n d) ≡ true) × ((get_or keys n d).place ≡ place))
     → IsLeastTwinBelow (n + 1) keys (Some (min (unwrap_or least place) place))
 least_changes n keys None place old some twins =
     let next : n - 1 + 1 ≡ n = omega arith in (
@@ -54,14 +55,14 @@ least_changes n keys None place old some twins =
         omega arith,
         λ d. (
           subst (λ (i : ℕ). are_twins (get_or keys (n - 1) d) (get_or keys i d) ≡ true) (sym next) (twins d).0,
-          subst (λ (i : ℕ). (get_or keys i d).2 ≡ min place place) (sym next) ((twins d).1 ∙ omega arith),
+          subst (λ (i : ℕ). (get_or keys i d).place ≡ min place place) (sym next) ((twins d).1 ∙ omega arith),
         ),
       ),
       λ m d less same. ⊎_elim
           (λ older. let never : true ≡ false = sym same ∙ old m d older in cc)
           (λ newer.
           let here : n ≡ m + 1 = omega arith in
-          let at : (get_or keys (m + 1) d).2 ≡ place = subst (λ (i : ℕ). (get_or keys i d).2 ≡ place) here (twins d).1 in
+          let at : (get_or keys (m + 1) d).place ≡ place = subst (λ (i : ℕ). (get_or keys i d).place ≡ place) here (twins d).1 in
           omega arith)
           (cases_lt (m + 1) n),
     )
@@ -77,7 +78,7 @@ least_changes n keys (Some least) place ((k, lt, there), below) some twins = (
         omega arith,
         λ d. (
           subst (λ (i : ℕ). are_twins (get_or keys (n - 1) d) (get_or keys i d) ≡ true) (sym next) (twins d).0,
-          subst (λ (i : ℕ). (get_or keys i d).2 ≡ min least place) (sym next) ((twins d).1 ∙ is),
+          subst (λ (i : ℕ). (get_or keys i d).place ≡ min least place) (sym next) ((twins d).1 ∙ is),
         ),
       ))
       (cases_lt least place),
@@ -85,7 +86,7 @@ least_changes n keys (Some least) place ((k, lt, there), below) some twins = (
       (λ older. let bound = below m d older same in omega arith)
       (λ newer.
       let here : n ≡ m + 1 = omega arith in
-      let at : (get_or keys (m + 1) d).2 ≡ place = subst (λ (i : ℕ). (get_or keys i d).2 ≡ place) here (twins d).1 in
+      let at : (get_or keys (m + 1) d).place ≡ place = subst (λ (i : ℕ). (get_or keys i d).place ≡ place) here (twins d).1 in
       omega arith)
       (cases_lt (m + 1) n),
 )

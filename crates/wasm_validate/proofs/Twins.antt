@@ -6,12 +6,13 @@ use Rattle.std.proofs.lemmas.List.Folds.{list_any_none, list_any_at}
 use Rattle.std.proofs.lemmas.List.Sorted.{Contains-permutation, IsPermutation-sym}
 use Rattle.std.proofs.lemmas.Slice.Eq.{bytes_eq-Decides}
 use Rattle.wasm_ops.specs.declared.modules.Export.{Export}
-use Rattle.wasm_validate.specs.Names.{fingerprint_of, Key, IsKey, AreKeys, are_twins, IsUsedAt, IsFirstUsed, IsLeastTwin}
+use Rattle.wasm_validate.specs.declared.exports.Key.{Key}
+use Rattle.wasm_validate.specs.Names.{fingerprint_of, IsKey, AreKeys, are_twins, IsUsedAt, IsFirstUsed, IsLeastTwin}
 use Rattle.wasm_validate.proofs.Keys.{by_key, twins_of, place_below, below_by_place, between, rising, not_both}
 
 -- the key where there is none
 none : Key
-none = (0, record { ref_ptr = (0, 0); now = [] }, 0)
+none = record { number = 0; name = record { ref_ptr = (0, 0); now = [] }; place = 0 }
 
 -- the element at a place is one of the list
 contained : {X : Type 0} (xs : List X) (i : ℕ) (d : X) → i < length xs → Contains xs (get_or xs i d)
@@ -23,7 +24,7 @@ one_of [] i lt = let never : ⊥ = omega arith in absurd never
 one_of (x ∷ xs) i lt = x
 
 module _ (exports : List Export) (keys sorted : List Key) (are : AreKeys exports keys) (moved : IsPermutation keys sorted) (up : IsSorted by_key sorted) where
-  places : (i : ℕ) (d : Key) → i < length keys → (get_or keys i d).2 ≡ i
+  places : (i : ℕ) (d : Key) → i < length keys → (get_or keys i d).place ≡ i
   places i d lt =
       let long = are.all in
       let within : i < length exports = omega arith in
@@ -48,7 +49,7 @@ module _ (exports : List Export) (keys sorted : List Key) (are : AreKeys exports
       (found.0, within, λ e. subst (λ (it : Key). IsKey (get_or exports found.0 e) found.0 it) found.2 (are.each found.0 e (get_or sorted p none) within))
 
   abbrev HasTwin : ℕ → Type 0
-  HasTwin i = (k : ℕ) × (k + 1 < length sorted) × (are_twins (get_or sorted k none) (get_or sorted (k + 1) none) ≡ true) × ((get_or sorted (k + 1) none).2 ≡ i)
+  HasTwin i = (k : ℕ) × (k + 1 < length sorted) × (are_twins (get_or sorted k none) (get_or sorted (k + 1) none) ≡ true) × ((get_or sorted (k + 1) none).place ≡ i)
 
   -- an export with the name of one before it has a key behind a twin
   used_has_twin : (j i : ℕ) (e : Export) → j < i → i < length exports → bytes_eq (get_or exports j e).name (get_or exports i e).name ≡ true → HasTwin i
@@ -59,9 +60,9 @@ module _ (exports : List Export) (keys sorted : List Key) (are : AreKeys exports
       let ka = are.each j e none (omega arith) in
       let kb = are.each i e none within in
       let names : (get_or exports j e).name ≡ (get_or exports i e).name = (bytes_eq-Decides (get_or exports j e).name (get_or exports i e).name).0 same in
-      let texts : a.1.now ≡ b.1.now = ka.name ∙ (names ∙ sym kb.name) in
-      let numbers : a.0 ≡ b.0 = ka.number ∙ (ap fingerprint_of names ∙ sym kb.number) in
-      let texts_eq : bytes_eq a.1.now b.1.now ≡ true = (bytes_eq-Decides a.1.now b.1.now).1 texts in
+      let texts : a.name.now ≡ b.name.now = ka.name ∙ (names ∙ sym kb.name) in
+      let numbers : a.number ≡ b.number = ka.number ∙ (ap fingerprint_of names ∙ sym kb.number) in
+      let texts_eq : bytes_eq a.name.now b.name.now ≡ true = (bytes_eq-Decides a.name.now b.name.now).1 texts in
       let at_a = ka.place in
       let at_b = kb.place in
       let ab : by_key a b ≡ Less = below_by_place a b numbers texts_eq (omega arith) in
@@ -71,7 +72,7 @@ module _ (exports : List Export) (keys sorted : List Key) (are : AreKeys exports
       (λ lt. let ba : by_key b a ≡ Less = subst₂ (λ (x y : Key). by_key x y ≡ Less) sq sp (rise q p lt lp) in not_both a b ab ba)
       (λ ge. let pq : p ≡ q = omega arith in
       let alike : a ≡ b = sym sp ∙ (ap (λ (n : ℕ). get_or sorted n none) pq ∙ sq) in
-      let level : a.2 ≡ b.2 = ap (λ (it : Key). it.2) alike in omega arith)
+      let level : a.place ≡ b.place = ap (λ (it : Key). it.place) alike in omega arith)
       (cases_lt q p) in
       ⊎_elim
       (λ pq.
@@ -85,22 +86,22 @@ module _ (exports : List Export) (keys sorted : List Key) (are : AreKeys exports
       let alike : x ≡ a = ap (λ (n : ℕ). get_or sorted n none) here ∙ sp in
       subst (λ (it : Key). are_twins it b ≡ true) (sym alike) (twins_of a b numbers texts_eq))
       (cases_lt p k) in
-      (k, omega arith, subst (λ (it : Key). are_twins x it ≡ true) (sym sk) twins, ap (λ (it : Key). it.2) sk ∙ kb.place))
+      (k, omega arith, subst (λ (it : Key). are_twins x it ≡ true) (sym sk) twins, ap (λ (it : Key). it.place) sk ∙ kb.place))
       (λ qp. absurd (behind qp))
       (cases_lt p q)
 
   -- the greater one of two twins is the key of an export with the name of one before it
   twin_is_used
       : (k : ℕ) → k + 1 < length sorted → are_twins (get_or sorted k none) (get_or sorted (k + 1) none) ≡ true
-      → ((get_or sorted (k + 1) none).2 < length exports) × IsUsedAt exports (get_or sorted (k + 1) none).2 true
+      → ((get_or sorted (k + 1) none).place < length exports) × IsUsedAt exports (get_or sorted (k + 1) none).place true
   twin_is_used k lt twins =
       let x = get_or sorted k none in
       let y = get_or sorted (k + 1) none in
-      let (numbers_eq, texts_eq) = and_parts (nat_eq x.0 y.0) (bytes_eq x.1.now y.1.now) twins in
-      let numbers = eqb-true x.0 y.0 numbers_eq in
+      let (numbers_eq, texts_eq) = and_parts (nat_eq x.number y.number) (bytes_eq x.name.now y.name.now) twins in
+      let numbers = eqb-true x.number y.number numbers_eq in
       let (j, lj, jx) = comes k (omega arith) in
       let (i, li, iy) = comes (k + 1) lt in
-      let less : x.2 < y.2 = place_below x y numbers texts_eq (rise k (k + 1) (omega arith) lt) in
+      let less : x.place < y.place = place_below x y numbers texts_eq (rise k (k + 1) (omega arith) lt) in
       let one = one_of exports i li in
       let at_x = (jx one).place in
       let at_y = (iy one).place in
@@ -108,7 +109,7 @@ module _ (exports : List Export) (keys sorted : List Key) (are : AreKeys exports
         omega arith,
         subst (λ (n : ℕ). IsUsedAt exports n true) (sym at_y) (λ e.
             let name = (get_or exports i e).name in
-            let names : (get_or exports j e).name ≡ name = sym (jx e).name ∙ ((bytes_eq-Decides x.1.now y.1.now).0 texts_eq ∙ (iy e).name) in
+            let names : (get_or exports j e).name ≡ name = sym (jx e).name ∙ ((bytes_eq-Decides x.name.now y.name.now).0 texts_eq ∙ (iy e).name) in
             let short : length (take i exports) ≡ i = length-take-le i exports (omega arith) in
             list_any_at (λ (it : Export). bytes_eq it.name name) (take i exports) j e (omega arith)
             (ap (λ (it : Export). bytes_eq it.name name) (get_or-take i exports j e ahead) ∙ (bytes_eq-Decides (get_or exports j e).name name).1 names)),

@@ -19,8 +19,13 @@ const OFFSET_BASIS: u64 = 14695981039346656037;
 
 const PRIME: u64 = 1099511628211;
 
-// What a name is sorted by: its number, the name, and the place of its export. The number tells most names apart. To look into the names themselves, which lie all over the memory, would take more time than all else.
-type Key<'a> = (u64, &'a str, u32);
+// What a name is sorted by. The number, its hash, comes first and tells most names apart: to look into the names themselves, which lie all over the memory, would take more time than all else. The place is that of its export.
+#[derive(PartialEq, Eq, PartialOrd, Ord, Drop)]
+struct Key<'a> {
+    number: u64,
+    name: &'a str,
+    place: u32,
+}
 
 // The hash FNV-1a of the name.
 fn fingerprint(name: &str) -> u64
@@ -39,7 +44,12 @@ fn keys_of<'a>(alloc: Global, exports: &'a [Export]) -> Result<Vec<Key<'a>>, All
     let mut place = 0;
     for export in exports {
         let name = export.name.as_str();
-        keys.push((fingerprint(name), name, place))?;
+        let number = fingerprint(name);
+        keys.push(Key {
+            number,
+            name,
+            place,
+        })?;
         place += 1;
     }
     Ok(keys)
@@ -48,7 +58,7 @@ fn keys_of<'a>(alloc: Global, exports: &'a [Export]) -> Result<Vec<Key<'a>>, All
 fn are_twins(one: &Key<'_>, other: &Key<'_>) -> bool
     ensures { result ≡ are_twins one.now other.now }
 {
-    one.0 == other.0 && one.1 == other.1
+    one.number == other.number && one.name == other.name
 }
 
 fn least_twin(keys: &[Key<'_>]) -> Option<u32>
@@ -58,7 +68,7 @@ fn least_twin(keys: &[Key<'_>]) -> Option<u32>
     for behind in 1..keys.len() {
         let key = &keys[behind];
         if are_twins(&keys[behind - 1], key) {
-            least = Some(least.unwrap_or(key.2).min(key.2));
+            least = Some(least.unwrap_or(key.place).min(key.place));
         }
     }
     least

@@ -1,21 +1,25 @@
 #!/usr/bin/env python3
 """Times the built program on valid modules of nearly 4 MiB and of half that size.
 
-    validate_module.py       builds the program where it is not built, by the script `sledge` at the top
+    validate_module.py                     builds the program where it is not built, by the script `sledge` at the top
+    validate_module.py --instructions      counts instructions by valgrind instead, which scatter no more than the program does
 
 For each kind of module it prints both times in milliseconds and their ratio. Where reading and checking are linear, the
 ratio is 2; the names of exports are sorted, in steps that grow a little faster than their number, so that theirs is somewhat
 more. Where they are quadratic it is 4, and one above 2.3 is told as a failure. A time is the least processor time of several
 runs, without that of a file which is the header alone. The modules are valid and export no `_start`, so they are not run: each
-run has to end with `module 53 0 0` and exit status 5.
+run has to end with `module 53 0 0` and exit status 5. Where other machines share the processors, times scatter, and a ratio
+of one series may be off by a tenth and more.
 """
 
+import os
+import re
 import subprocess
 import sys
 import tempfile
 
 import read_module
-from read_module import CONST_AND_DROP, END, HEADER, MOST_BYTES, ROOM, SCRIPT, functions, number, section, sized
+from read_module import CONST_AND_DROP, END, HEADER, MOST_BYTES, PROGRAM, ROOM, SCRIPT, functions, number, section, sized
 
 GREATEST_RATIO = 2.3
 NO_LOCALS = b"\0"
@@ -101,7 +105,24 @@ KINDS = [
 ]
 
 
-def main():
+def instructions(folder, content):
+    """How many instructions a run on a module with these bytes takes."""
+    with open(os.path.join(folder, "module"), "wb") as file:
+        file.write(content)
+    words = ["valgrind", "--tool=callgrind", "--callgrind-out-file=/dev/null", PROGRAM, "invoke", "module", "body", "10"]
+    run = subprocess.run(words, cwd=folder, stdout=subprocess.DEVNULL, stderr=subprocess.PIPE, text=True)
+    assert run.returncode == 5 and "module 53 0 0" in run.stderr, (run.returncode, run.stderr)
+    return int(re.search(r"Collected : (\d+)", run.stderr).group(1))
+
+
+def counted(folder, half, whole):
+    """The millions of instructions on two modules, each without those of a file which is the header alone."""
+    start, one, two = (instructions(folder, content) / 1e6 for content in (HEADER, half, whole))
+    return one - start, two - start
+
+
+def main(words):
+    measured, unit = (counted, "million instructions") if words == ["--instructions"] else (read_module.compared, "ms")
     subprocess.run([SCRIPT, "--version"], stdout=subprocess.DEVNULL, check=True)
     failed = 0
     with tempfile.TemporaryDirectory() as folder:
@@ -110,11 +131,11 @@ def main():
         for name, module in KINDS:
             half, whole = module(MOST_BYTES // 2), module(MOST_BYTES)
             assert len(whole) <= MOST_BYTES, len(whole)
-            one, two = read_module.compared(folder, half, whole)
+            one, two = measured(folder, half, whole)
             failed += two / one > GREATEST_RATIO
-            print(f"{name}: {one:.1f} ms for {len(half)} bytes, {two:.1f} ms for {len(whole)}, ratio {two / one:.2f}")
+            print(f"{name}: {one:.1f} {unit} for {len(half)} bytes, {two:.1f} {unit} for {len(whole)}, ratio {two / one:.2f}")
     return failed != 0
 
 
 if __name__ == "__main__":
-    sys.exit(main())
+    sys.exit(main(sys.argv[1:]))

@@ -281,6 +281,7 @@ fn ended_body(alloc: Global, body: Body) -> Result<Vec<Item>, AllocError>
 /// The items that the end of the stream gives.
 fn ended(alloc: Global, state: State) -> Result<Vec<Item>, AllocError>
     ensures given { IfOk result (λ items. map heard_of items.items ≡ items_from (standing_of state) [] true) }
+    ensures ending { IfOk result (λ items. IsEnding (map heard_of items.items)) }
     ensures failed { standing_of state ≡ standings.Failed → IsErr result }
 {
     match state {

@@ -1,3 +1,4 @@
 pub mod Deliveries
 pub mod FileLemmas
+pub mod ShelfAnswers
 pub mod Streams

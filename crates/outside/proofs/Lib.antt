@@ -2,3 +2,4 @@ pub mod Deliveries
 pub mod FileLemmas
 pub mod ShelfAnswers
 pub mod Streams
+pub mod ToldFiles

@@ -1,8 +1,8 @@
 -- What the bytes spell is what is made of them, and a program has the pages that it was given.
 use Rattle.std.proofs.Common.{rules, sym, subst}
-use Rattle.serve_config.specs.Loaded.{IsMade}
-use Rattle.serve_config.proofs.Programs.{made_of_spelt, made_of_refused, have_pages}
-use Rattle.serve_config.proofs.modules.program_of.Goals as goal
+use Rattle.module_files.specs.Made.{IsMade}
+use Rattle.module_files.proofs.Programs.{made_of_spelt, made_of_refused, have_pages}
+use Rattle.module_files.proofs.making.program_of.Goals as goal
 
 pub returns-in-Ok-clause-made : goal.returns-in-Ok-clause-made
 returns-in-Ok-clause-made c = subst (λ due. IsMade c.of_module.result due) (sym (made_of_spelt c.args.pages c.args.bytes.now c.in-Ok.parts c.in-Ok.ensures.found)) c.of_module.ensures

@@ -14,9 +14,9 @@ use Rattle.wasm_meaning.specs.Programs.{Program, linked_or}
 use Rattle.wasm_meaning.specs.Validity.{module_walk}
 use Rattle.wasm_meaning.specs.ValidityChecks.{Check}
 use Rattle.wasm_meaning.specs.declared.links.Unlinked.{Unlinked}
-use Rattle.serve_config.specs.declared.load_faults.Unmade.{Unmade}
-use Rattle.serve_config.specs.Loaded.{IsMade}
-use Rattle.serve_config.specs.Loading.{Unfit, program_of, linked, module_read, validated}
+use Rattle.module_files.specs.declared.faults.Unmade.{Unmade}
+use Rattle.module_files.specs.Made.{IsMade}
+use Rattle.module_files.specs.FilePrograms.{Unfit, program_of, linked, module_read, validated}
 
 pub is_long : (most n : ℕ) → most < n → nat_lt most n ≡ true
 is_long most n h = grind (arith, nat_tests)

@@ -3,10 +3,10 @@ ghost use Rattle.std.specs.Prelude.{◌≡◌, IfOk};
 ghost use Rattle.wasm_ops.specs.WellFormed.{IsWellFormed};
 ghost use Rattle.wasm_meaning.specs.Programs.{link as link_due};
 ghost use Rattle.wasm_meaning.specs.Validity.{module_walk};
-ghost use Rattle.serve_config.specs.Loading.{linked, validated, program_of as program_due};
-ghost use Rattle.serve_config.specs.Loaded.{IsMade};
+ghost use Rattle.module_files.specs.FilePrograms.{linked, validated, program_of as program_due};
+ghost use Rattle.module_files.specs.Made.{IsMade};
 
-use crate::load_faults::Unmade;
+use crate::faults::Unmade;
 use std::alloc::Global;
 use wasm_instance::{LinkFault, Program, link};
 use wasm_ops::Module;

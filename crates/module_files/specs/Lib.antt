@@ -1,0 +1,2 @@
+pub mod FilePrograms
+pub mod Made

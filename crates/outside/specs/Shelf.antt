@@ -37,7 +37,7 @@ fails s = list_any (λ number. number == s.calls) s.failing
 abbrev pub after_call : Contents → Contents
 after_call s = record s { calls = one_more s.calls; faults = cond (fails s) (one_more s.faults) s.faults }
 
-abbrev answer_of_file : Option (List ℕ) → ℕ → Result (List ℕ) Fetch
+abbrev pub answer_of_file : Option (List ℕ) → ℕ → Result (List ℕ) Fetch
 answer_of_file None most = Err Missing
 answer_of_file (Some bytes) most = Ok (take (most + 1) bytes)
 

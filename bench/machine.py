@@ -18,7 +18,7 @@ import tempfile
 TOP = os.path.join(os.path.dirname(os.path.abspath(__file__)), "..")
 sys.path.insert(0, os.path.join(TOP, "tests"))
 
-from module_writer import body, module, signed, text  # noqa: E402
+from lib.module_writer import body, module, signed, text  # noqa: E402
 
 SCRIPT = os.path.join(TOP, "sledge")
 PROGRAM = os.path.join(TOP, "crates", "sledge", "out", "sledge")

@@ -17,9 +17,9 @@ import tempfile
 
 sys.path.insert(0, os.path.join(os.path.dirname(os.path.abspath(__file__)), "..", "tests"))
 
-from recordings import begin, piece, recording  # noqa: E402
-from replays import MODULES, Route, Tenant, configuration, request  # noqa: E402
-from running import PROGRAM, build  # noqa: E402
+from recording_table import begin, piece, recording  # noqa: E402
+from random_replays import MODULES, Route, Tenant, configuration, request  # noqa: E402
+from lib.running import PROGRAM, build  # noqa: E402
 
 MOST = 4096
 ROUTES = [Route("/nil", "nil", 10, 1, 0), Route("/echo", "echo", 100000, 2, 0)]

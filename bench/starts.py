@@ -18,7 +18,7 @@ import tempfile
 TOP = os.path.join(os.path.dirname(os.path.abspath(__file__)), "..")
 sys.path.insert(0, os.path.join(TOP, "tests"))
 
-from module_writer import module, number  # noqa: E402
+from lib.module_writer import module, number  # noqa: E402
 
 PROGRAM = os.path.join(TOP, "crates", "turns_table", "out", "turns_table")
 START = ["06 5F 73 74 61 72 74 00 00"]

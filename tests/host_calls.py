@@ -10,9 +10,9 @@ What must come of it is computed by the interpreter in Python.
 import random
 import sys
 
-from interpreter import PAGE
-from module_writer import body, module, number, signed, text
-from running import Case, compare
+from lib.interpreter import PAGE
+from lib.module_writer import body, module, number, signed, text
+from lib.running import Case, compare
 
 WASI = text("16") + b"wasi_snapshot_preview1"
 TYPES = ["60 04 7F 7F 7F 7F 01 7F", "60 01 7F 00", "60 00 00"]

@@ -8,9 +8,9 @@ Each module reaches `unreachable` where an operator does not give what was compu
 import sys
 
 import integer_table
-from interpreter import PAGE
-from module_writer import body, module, number, signed, text
-from running import Case, compare
+from lib.interpreter import PAGE
+from lib.module_writer import body, module, number, signed, text
+from lib.running import Case, compare
 
 CONST, EQUAL = {32: b"\x41", 64: b"\x42"}, {32: b"\x46", 64: b"\x51"}
 IF_NOT_TRAP = bytes.fromhex("45 04 40 00 0B")

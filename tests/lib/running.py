@@ -5,10 +5,10 @@ import subprocess
 import tempfile
 from concurrent.futures import ThreadPoolExecutor
 
-import interpreter
-import module_validator
+from lib import interpreter
+from lib import module_validator
 
-TOP = os.path.join(os.path.dirname(os.path.abspath(__file__)), "..")
+TOP = os.path.join(os.path.dirname(os.path.abspath(__file__)), "..", "..")
 SCRIPT = os.path.join(TOP, "sledge")
 PROGRAM = os.path.join(TOP, "crates", "sledge", "out", "sledge")
 

@@ -18,13 +18,13 @@ import sys
 import tempfile
 from concurrent.futures import ThreadPoolExecutor
 
-import interpreter
-import module_validator
-import recordings
-from http_items import REFUSALS
-from module_writer import module
-from running import build, differs, lay, run
-from whole_modules import ECHO, ENDLESS, NOTHING, PAGE_FILLER, UNREACHABLE, ZERO_READER
+from lib import interpreter
+from lib import module_validator
+import recording_table as recordings
+from http_table import REFUSALS
+from lib.module_writer import module
+from lib.running import build, differs, lay, run
+from lib.whole_modules import ECHO, ENDLESS, NOTHING, PAGE_FILLER, UNREACHABLE, ZERO_READER
 
 START = "06 5F 73 74 61 72 74 00"
 MOST_ITEMS = 4096

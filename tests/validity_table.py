@@ -15,9 +15,9 @@ import copy
 import random
 import sys
 
-import module_reader
-import module_validator
-from module_writer import body, module, text
+from lib import module_reader
+from lib import module_validator
+from lib.module_writer import body, module, text
 
 GROWN = 300
 

@@ -7,10 +7,10 @@
 import random
 import sys
 
-import module_validator
-import validity
-from module_writer import module
-from running import Case, compare
+from lib import module_validator
+import validity_table as validity
+from lib.module_writer import module
+from lib.running import Case, compare
 
 START = "06 5F 73 74 61 72 74 00 00"
 TYPES = [validity.NOTHING, validity.TAKES_I32, validity.GIVES_I32, validity.I32_TO_I64, validity.BOTH_TO_I32]

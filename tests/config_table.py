@@ -15,7 +15,7 @@ import json
 import random
 import sys
 
-import config_reader
+from lib import config_reader
 
 FIRST = {
     "workers": 2, "quantum": 1000, "policy": "rr", "berths": 2,

@@ -8,8 +8,8 @@ request: a verdict (`("reply", bytes)`, `("exit", code)`, `("trap", text)`, `("s
 """
 
 import integer_table
-import module_validator
-from module_validator import I32, I64, LOADS, STORES
+from lib import module_validator
+from lib.module_validator import I32, I64, LOADS, STORES
 
 PAGE = 65_536
 MOST_FRAMES, MOST_CELLS = 4_096, 65_536

@@ -13,14 +13,14 @@ agree with it. All requests run on one vessel, in the order of the cases.
 import random
 import sys
 
-import fresh_states
-import interpreter
-import module_validator
-import programs
+from lib import fresh_states
+from lib import interpreter
+from lib import module_validator
+import random_programs as programs
 from host_calls import EXIT, WRITE, call, filled, laid
 from host_calls import program as calling
-from module_writer import module
-from whole_modules import ECHO, ENDLESS, MOST_FRAMES, NOTHING, PAGE_FILLER, UNREACHABLE, ZERO_READER
+from lib.module_writer import module
+from lib.whole_modules import ECHO, ENDLESS, MOST_FRAMES, NOTHING, PAGE_FILLER, UNREACHABLE, ZERO_READER
 
 QUANTA = [1, 2, 3, 7, 100, 2**32 - 1]
 GREATEST = 2**64 - 1

@@ -17,11 +17,11 @@ import random
 import sys
 import tempfile
 
-import interpreter
-import module_reader
+from lib import interpreter
+from lib import module_reader
 import module_table
-import module_validator
-from running import build, lay, run
+from lib import module_validator
+from lib.running import build, lay, run
 
 
 def module(*sections):

@@ -12,10 +12,10 @@ and units are its own, and its turns are those of its prices in the batch's quan
 import functools
 import sys
 
-import interpreter
-import turns
-from turns import BY_ZERO, DEEP, ENDS_WELL, EXITS, GROWS, NOPS, NOTHING, TWO_ENTRIES
-from whole_modules import ECHO, ENDLESS, PAGE_FILLER, UNREACHABLE, ZERO_READER
+from lib import interpreter
+import turns_table as turns
+from turns_table import BY_ZERO, DEEP, ENDS_WELL, EXITS, GROWS, NOPS, NOTHING, TWO_ENTRIES
+from lib.whole_modules import ECHO, ENDLESS, PAGE_FILLER, UNREACHABLE, ZERO_READER
 
 WORKERS, QUANTA, POLICIES = [1, 2, 4, 64], [1, 7, 100, 1_000_000], ["rr", "edf"]
 # The pages of a batch's berths and of the caller's, at most.

@@ -24,8 +24,7 @@ TOP = os.path.join(os.path.dirname(os.path.abspath(__file__)), "..")
 sys.path.insert(0, os.path.join(TOP, "tests"))
 
 import examples  # noqa: E402
-from lib import running  # noqa: E402
-from lib import interpreter  # noqa: E402
+from lib import interpreter, running  # noqa: E402
 from lib.module_reader import HEADER  # noqa: E402
 from lib.module_validator import I32, Bytes, decode  # noqa: E402
 from lib.module_writer import body, number, section, signed, text, vector  # noqa: E402

@@ -17,8 +17,8 @@ import tempfile
 
 sys.path.insert(0, os.path.join(os.path.dirname(os.path.abspath(__file__)), "..", "tests"))
 
-from recording_table import begin, piece, recording  # noqa: E402
-from random_replays import MODULES, Route, Tenant, configuration, request  # noqa: E402
+from lib.recordings import begin, piece, recording  # noqa: E402
+from lib.replays import MODULES, Route, Tenant, configuration, request  # noqa: E402
 from lib.running import PROGRAM, build  # noqa: E402
 
 MOST = 4096

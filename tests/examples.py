@@ -16,8 +16,7 @@ import random
 import subprocess
 import sys
 
-from lib import interpreter
-from lib import module_validator
+from lib import interpreter, module_validator
 from lib.running import SCRIPT, TOP, Case, compare
 
 # ---- what the functions are for

@@ -10,9 +10,7 @@ is linked is run.
 import sys
 import tempfile
 
-from lib import interpreter
-from lib import module_reader
-from lib import module_validator
+from lib import interpreter, module_reader, module_validator
 from lib.module_writer import module, number, text
 from lib.running import Case, build, ran
 

@@ -12,8 +12,8 @@ import os
 import sys
 import tempfile
 
-import recording_table as recordings
-from random_replays import MODULES, Connection, Item, Route, Tenant, due, request
+from lib import recordings
+from lib.replays import MODULES, Connection, Item, Route, Tenant, due, request
 from lib.running import TOP, build, differs, lay, run
 
 CONFIG = {

@@ -13,9 +13,7 @@ import struct
 import sys
 import tempfile
 
-from lib import interpreter
-from lib import module_validator
-import recording_table as recordings
+from lib import interpreter, module_validator, recordings
 from lib.running import build, differs, lay, run
 from lib.whole_modules import ECHO, ENDLESS, NOTHING, UNREACHABLE
 

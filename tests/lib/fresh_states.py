@@ -8,8 +8,7 @@ address; and the bodies that are to be entered, which are those of the start fun
 imported functions.
 """
 
-from lib import interpreter
-from lib import module_validator
+from lib import interpreter, module_validator
 from lib.interpreter import PAGE
 from lib.module_writer import body, module, number, signed, text
 

@@ -5,8 +5,7 @@ import subprocess
 import tempfile
 from concurrent.futures import ThreadPoolExecutor
 
-from lib import interpreter
-from lib import module_validator
+from lib import interpreter, module_validator
 
 TOP = os.path.join(os.path.dirname(os.path.abspath(__file__)), "..", "..")
 SCRIPT = os.path.join(TOP, "sledge")

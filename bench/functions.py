@@ -16,7 +16,6 @@ import math
 import os
 import random
 import shutil
-import subprocess
 import sys
 import tempfile
 
@@ -155,14 +154,10 @@ def alone(data, request):
 
 def seconds(words, folder):
     """The processor time that a command takes, and what it wrote."""
-    with open(os.path.join(folder, "out"), "wb+") as out, open(os.path.join(folder, "notes"), "wb+") as notes:
-        child = subprocess.Popen(words, cwd=folder, stdout=out, stderr=notes)
-        _, status, usage = os.wait4(child.pid, 0)
-        out.seek(0), notes.seek(0)
-        said, noted = out.read(), notes.read().decode()
+    usage, status, said, noted = running.measured(words, folder)
     if status != 0:
         sys.exit("%s: %r" % (" ".join(words), noted[:300]))
-    return usage.ru_utime + usage.ru_stime, said, noted
+    return usage.ru_utime + usage.ru_stime, said, noted.decode()
 
 
 def commands(name):

@@ -37,7 +37,7 @@ def seconds(folder, repeats):
     least = float("inf")
     for _ in range(repeats):
         before = used()
-        subprocess.run([PROGRAM, "replay", "config", "recording"], cwd=folder, check=True, stdout=subprocess.DEVNULL, stderr=subprocess.DEVNULL)
+        subprocess.run([PROGRAM, "replay", "config", "recording"], cwd=folder, check=True, stdout=subprocess.DEVNULL, stderr=subprocess.DEVNULL, timeout=600)
         least = min(least, used() - before)
     return least
 

@@ -38,7 +38,7 @@ def seconds(folder, data, pages, count):
     least = float("inf")
     for _ in range(RUNS):
         begun = used()
-        done = subprocess.run([PROGRAM], cwd=folder, capture_output=True, check=True)
+        done = subprocess.run([PROGRAM], cwd=folder, capture_output=True, check=True, timeout=600)
         least = min(least, used() - begun)
         assert done.stdout == b"answered %d\n" % count, done.stdout[:100]
     return least

@@ -231,9 +231,8 @@ class Machine:
                 self.memory[at : at + len(left[:length])] = left[:length]
                 left = left[length:]
         else:
-            gathered = b"".join(bytes(self.memory[at : at + length]) for at, length in buffers)
-            if descriptor == 1:
-                self.reply += gathered
+            if descriptor == 1:  # what goes to 2 is dropped, and may be nearly 4 GiB long
+                self.reply += b"".join(bytes(self.memory[at : at + length]) for at, length in buffers)
         self.memory[place : place + 4] = moved.to_bytes(4, "little")
         return 0
 

@@ -1,6 +1,6 @@
 //! Whole commands over files and outputs in memory: what calls that fail leave, and in which
 //! pieces a text is written. Words, modules, bodies and configurations are tried on the built program
-//! (`tests/invoke.py`, `tests/check.py`).
+//! (`tests/invoke_command.py`, `tests/check_command.py`).
 
 use crate::delivery::deliver;
 use crate::status::Status;

@@ -1,9 +1,7 @@
 #!/usr/bin/env python3
 """Requests in turns: cases, and what an interpreter apart from the repository's code says of them.
 
-    turns.py cases            prints the cases that `crates/turns_table` reads, with those of fresh_states.py behind them
-    turns.py table            prints what it must print of them
-    turns.py check FOLDER     compares both with FOLDER/data/cases and FOLDER/stdout
+    turns_table.py [check|make]      compares crates/turns_table/data/cases and stdout with them, or writes them (tests/lib/tables.py)
 
 A case is a line `turns MODULE BODY BUDGET QUANTUM`. Each program is run with each quantum, so that verdict and units are seen to be
 the same and the turns those of the prices (docs/DEFINITIONS.md). In ROWS the answer is written out by hand, and the interpreter has to
@@ -13,39 +11,13 @@ agree with it. All requests run on one vessel, in the order of the cases.
 import random
 import sys
 
-import fresh_states
-import interpreter
-import module_validator
-import programs
-from host_calls import EXIT, WRITE, call, filled, laid
-from host_calls import program as calling
-from module_writer import module
-from whole_modules import ECHO, ENDLESS, MOST_FRAMES, NOTHING, PAGE_FILLER, UNREACHABLE, ZERO_READER
+from lib import fresh_states, tables
+from lib.in_turns import BLOCKS, BY_ZERO, DEAR, DEEP, ENDS_WELL, EXITS, GROWS, NOPS, TWO_ENTRIES, answer, became
+from lib.random_modules import grown_program
+from lib.whole_modules import ECHO, ENDLESS, MOST_FRAMES, NOTHING, PAGE_FILLER, UNREACHABLE, ZERO_READER
 
 QUANTA = [1, 2, 3, 7, 100, 2**32 - 1]
 GREATEST = 2**64 - 1
-START = ["06 5F 73 74 61 72 74 00 00"]
-
-
-def one(operators, **parts):
-    """A module whose only function is `_start`."""
-    return module(bodies=[operators], exports=START, **parts)
-
-
-NOPS, BY_ZERO = one("01 01 01"), one("41 07 41 00 6E 1A")
-# Blocks that are left and come to their ends: moves that cost nothing, in front of operators and behind the last one.
-BLOCKS = one("02 40 02 40 02 40 01 0B 0B 0B 02 40 0C 00 0B 41 00 04 40 01 05 01 01 0B 02 40 02 40 0C 01 0B 0B")
-# A function that calls itself until no frame is left: the last call is paid, and entering traps for nothing.
-DEEP = module(functions=["00"], bodies=["10 00"], exports=START)
-# A start function before `_start`, both with a nop: they share a turn.
-TWO_ENTRIES = module(functions=["00", "00"], bodies=["01", "01 01"], exports=START, start="01")
-# Ends itself with a code behind a reply of three bytes; `proc_exit` costs 1, as all operators before it but the write, which costs 2.
-EXITS = calling(laid(0, [(1024, 3)]) + call(WRITE, 1, 0, 1, 8) + b"\x1a" + call(EXIT, 7))
-ENDS_WELL = calling(filled(3) + call(EXIT, 0))
-# One operator that costs 338, more than most quanta: 300 buffers and 2,400 bytes.
-DEAR = calling(laid(0, [(0, 8)] * 300) + call(WRITE, 1, 0, 300, 65532) + b"\x1a\x01")
-GROWS = one("41 01 40 00 1A 41 FC FF 07 41 05 36 02 00 41 FF 01 40 00 1A 3F 00 1A", memories=["00 01"])
-
 BODY = bytes(number * 7 % 256 for number in range(3000))
 REPLY = "replied " + BODY.hex()
 
@@ -112,29 +84,8 @@ PROGRAMS = [
 GROWN, SEED = 16, 19
 
 
-def became(data, request_body, budget, pages=256):
-    """What becomes of a request whose module is given so many pages, as the table tells it, and its prices."""
-    decoded = module_validator.decode(data)
-    assert module_validator.violation(decoded) is None
-    assert interpreter.link_refusal(decoded, pages) is None
-    machine = interpreter.Machine(decoded, request_body, budget, pages)
-    try:
-        machine.whole()
-    except interpreter.Trap as trap:
-        return "trap: " + trap.args[0], machine.prices
-    except interpreter.Exit as code:
-        return "exit %d %s" % (code.args[0], machine.reply.hex() or "-"), machine.prices
-    except interpreter.Spent:
-        return "spent", machine.prices
-    return "replied " + (machine.reply.hex() or "-"), machine.prices
-
-
 def line_of(data, request_body, budget, quantum):
     return "turns %s %s %d %d" % (data.hex(), request_body.hex() or "-", budget, quantum)
-
-
-def answer(told, prices, quantum):
-    return "%s, units %d, turns %d" % (told, sum(prices), interpreter.turns(prices, quantum))
 
 
 def rows():
@@ -148,7 +99,7 @@ def rows():
 def grown():
     rng = random.Random(SEED)
     for _ in range(GROWN):
-        yield programs.grown(rng), b"", [rng.choice((7, 40, 300, 2000))]
+        yield grown_program(rng), b"", [rng.choice((7, 40, 300, 2000))]
 
 
 def in_turns():
@@ -171,23 +122,10 @@ def cases():
         yield from made
 
 
-def main(words):
-    lines = list(cases())
-    texts = ["".join(line[side] + "\n" for line in lines) for side in (0, 1)]
-    if words in (["cases"], ["table"]):
-        sys.stdout.write(texts[words == ["table"]])
-        return 0
-    if len(words) == 2 and words[0] == "check":
-        for name, wanted in zip(("data/cases", "stdout"), texts):
-            with open("%s/%s" % (words[1], name), encoding="utf-8") as file:
-                if file.read() != wanted:
-                    print("turns: %s/%s differs" % (words[1], name), file=sys.stderr)
-                    return 1
-        print("turns: %d cases agree" % len(lines))
-        return 0
-    sys.stderr.write(__doc__)
-    return 2
+def files():
+    lines, answers = zip(*cases())
+    return {"data/cases": tables.text(lines), "stdout": tables.text(answers)}
 
 
 if __name__ == "__main__":
-    sys.exit(main(sys.argv[1:]))
+    sys.exit(tables.main("turns_table", files, sys.argv[1:]))

@@ -8,10 +8,9 @@ address; and the bodies that are to be entered, which are those of the start fun
 imported functions.
 """
 
-import interpreter
-import module_validator
-from interpreter import PAGE
-from module_writer import body, module, number, signed, text
+from lib import interpreter, module_validator
+from lib.interpreter import PAGE
+from lib.module_writer import body, module, number, signed, text
 
 WASI = text("16") + b"wasi_snapshot_preview1"
 TYPES = ["60 00 00", "60 01 7F 00", "60 01 7F 01 7F"]

@@ -1,9 +1,7 @@
 #!/usr/bin/env python3
 """Batches of requests by several workers: batches, and what an interpreter apart from the repository's code says of their answers.
 
-    batches.py cases            prints the batches that `crates/batch_table` reads
-    batches.py table            prints what it must print of them
-    batches.py check FOLDER     compares both with FOLDER/stdin and FOLDER/stdout
+    batch_table.py [check|make]      compares crates/batch_table/stdin and stdout with them, or writes them (tests/lib/tables.py)
 
 Whatever the workers, the policy and the berths of a batch, the answer to each of its requests is that of the request alone: verdict
 and units are its own, and its turns are those of its prices in the batch's quantum (docs/DEFINITIONS.md).
@@ -12,10 +10,9 @@ and units are its own, and its turns are those of its prices in the batch's quan
 import functools
 import sys
 
-import interpreter
-import turns
-from turns import BY_ZERO, DEEP, ENDS_WELL, EXITS, GROWS, NOPS, NOTHING, TWO_ENTRIES
-from whole_modules import ECHO, ENDLESS, PAGE_FILLER, UNREACHABLE, ZERO_READER
+from lib import in_turns, interpreter, tables
+from lib.in_turns import BY_ZERO, DEEP, ENDS_WELL, EXITS, GROWS, NOPS, TWO_ENTRIES
+from lib.whole_modules import ECHO, ENDLESS, NOTHING, PAGE_FILLER, UNREACHABLE, ZERO_READER
 
 WORKERS, QUANTA, POLICIES = [1, 2, 4, 64], [1, 7, 100, 1_000_000], ["rr", "edf"]
 # The pages of a batch's berths and of the caller's, at most.
@@ -47,7 +44,7 @@ TAKEN_OVER = "worker 1 took over what worker 0 began, while worker 0 was held"
 
 @functools.lru_cache(None)
 def became(data, body, budget, pages):
-    return turns.became(data, body, budget, pages)
+    return in_turns.became(data, body, budget, pages)
 
 
 def taken(requests, count):
@@ -62,7 +59,7 @@ def due(place):
 
 def lines_of(gate, workers, quantum, policy, berths, pages, requests):
     """The lines of a batch, and those that must be printed of it."""
-    answers = [turns.answer(*became(*request, pages), quantum) for request in requests]
+    answers = [in_turns.answer(*became(*request, pages), quantum) for request in requests]
     read = ["%s %d %d %s %d %d" % (gate, workers, quantum, policy, berths, pages)]
     read += ["%s %s %d %d" % (data.hex(), body.hex() or "-", budget, due(place)) for place, (data, body, budget) in enumerate(requests)]
     return read, ["answers %d" % len(requests), *answers]
@@ -120,23 +117,11 @@ def batches():
         yield from made
 
 
-def main(words):
+def files():
     read, wanted = zip(*batches())
-    texts = ["".join("\n".join(lines) + "\n\n" for lines in read), "".join("\n".join(lines) + "\n" for lines in wanted)]
-    if words in (["cases"], ["table"]):
-        sys.stdout.write(texts[words == ["table"]])
-        return 0
-    if len(words) == 2 and words[0] == "check":
-        for name, text in zip(("stdin", "stdout"), texts):
-            with open("%s/%s" % (words[1], name), encoding="utf-8") as file:
-                if file.read() != text:
-                    print("batches: %s/%s differs" % (words[1], name), file=sys.stderr)
-                    return 1
-        print("batches: %d lines of %d batches agree" % (sum(map(len, wanted)), len(wanted)))
-        return 0
-    sys.stderr.write(__doc__)
-    return 2
+    stdin, stdout = "".join(tables.text(lines) + "\n" for lines in read), "".join(map(tables.text, wanted))
+    return {"stdin": stdin, "stdout": stdout}
 
 
 if __name__ == "__main__":
-    sys.exit(main(sys.argv[1:]))
+    sys.exit(tables.main("batch_table", files, sys.argv[1:]))

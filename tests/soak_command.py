@@ -13,11 +13,9 @@ import struct
 import sys
 import tempfile
 
-import interpreter
-import module_validator
-import recordings
-from running import build, differs, lay, run
-from whole_modules import ECHO, ENDLESS, NOTHING, UNREACHABLE
+from lib import interpreter, module_validator, recordings
+from lib.running import build, differs, lay, run
+from lib.whole_modules import ECHO, ENDLESS, NOTHING, UNREACHABLE
 
 MULTIPLIER, INCREMENT = 6364136223846793005, 1442695040888963407
 MOST_LINKS = 16

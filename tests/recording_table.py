@@ -1,123 +1,15 @@
 #!/usr/bin/env python3
-"""Recordings, as docs/FORMATS.md describes them: a writer, and a reader apart from the repository's code.
+"""Recordings: cases, and what a reader apart from the repository's code says of them (tests/lib/recordings.py).
 
-    recordings.py write             reads lines of words, writes the recording that they spell
-    recordings.py cases             prints the cases that `crates/recording_table` reads
-    recordings.py table             prints what it must print of them
-    recordings.py check FOLDER      compares both with FOLDER/data/cases and FOLDER/stdout
-
-The lines of `write` are `begin MOMENT LINK TENANT`, `piece MOMENT LINK TEXT`, where `\\r`, `\\n`,
-`\\\\` and `\\xHH` in TEXT stand for single bytes, and `close MOMENT LINK`. The end is written behind
-the last line. Nothing is checked, so that a recording that must be refused can be written too.
+    recording_table.py [check|make]      compares crates/recording_table/data/cases and stdout with them, or writes them (tests/lib/tables.py)
 """
 
-import codecs
 import random
 import struct
 import sys
 
-MAGIC = b"SLR1"
-END, BEGIN, PIECE, CLOSE = range(4)
-MOST_BYTES = 32 * 1024 * 1024
-MOST_CONNECTIONS = 1024
-
-
-# ---- the writer
-
-
-def begin(moment, link, tenant):
-    return struct.pack("<BIII", BEGIN, moment, link, tenant)
-
-
-def piece(moment, link, data):
-    return struct.pack("<BIII", PIECE, moment, link, len(data)) + data
-
-
-def close(moment, link):
-    return struct.pack("<BII", CLOSE, moment, link)
-
-
-def recording(records):
-    return MAGIC + b"".join(records) + bytes([END])
-
-
-def record_of_line(line):
-    words = line.split(" ", 3)
-    kind, numbers, rest = words[0], [int(word) for word in words[1:3]], words[3:]
-    if kind == "begin":
-        return begin(*numbers, int(rest[0]))
-    if kind == "piece":
-        text = rest[0] if rest else ""
-        return piece(*numbers, codecs.escape_decode(text.encode())[0])
-    if kind == "close" and not rest:
-        return close(*numbers)
-    raise ValueError("no record: %s" % line)
-
-
-# ---- the reader: the records, or the number of the first refusal
-
-
-class Refused(Exception):
-    pass
-
-
-def read(data, tenants):
-    if len(data) > MOST_BYTES:
-        raise Refused(76)
-    if data[:4] != MAGIC:
-        raise Refused(70)
-    at, last, open_links, records = 4, 0, [], []
-    while True:
-        if at == len(data):
-            raise Refused(71)
-        kind = data[at]
-        if kind > 3:
-            raise Refused(72)
-        if kind == END:
-            if at + 1 < len(data):
-                raise Refused(78)
-            return records
-        if at + 9 > len(data):
-            raise Refused(71)
-        moment, link = struct.unpack_from("<II", data, at + 1)
-        if moment < last:
-            raise Refused(73)
-        if kind == BEGIN:
-            if link != len(open_links):
-                raise Refused(74)
-        elif link >= len(open_links) or not open_links[link]:
-            raise Refused(74)
-        number, end = None, at + 9
-        if kind != CLOSE:
-            if at + 13 > len(data):
-                raise Refused(71)
-            (number,) = struct.unpack_from("<I", data, at + 9)
-            end = at + 13
-        if kind == PIECE:
-            end += number
-            if end > len(data):
-                raise Refused(71)
-        if link >= MOST_CONNECTIONS:
-            raise Refused(76)
-        if kind == BEGIN and number >= tenants:
-            raise Refused(75)
-        if kind == BEGIN:
-            open_links.append(True)
-            records.append("begin %d %d %d" % (moment, link, number))
-        elif kind == PIECE:
-            records.append("piece %d %d %s" % (moment, link, data[at + 13 : end].hex() or "-"))
-        else:
-            open_links[link] = False
-            records.append("close %d %d" % (moment, link))
-        at, last = end, moment
-
-
-def answer(data, tenants):
-    try:
-        return "".join(" %s;" % record for record in read(data, tenants))
-    except Refused as refused:
-        return " refused %d" % refused.args[0]
-
+from lib import tables
+from lib.recordings import BEGIN, MAGIC, PIECE, CLOSE, answer, begin, close, piece, recording
 
 # ---- the cases: a name, the number of tenants, the bytes
 
@@ -244,31 +136,9 @@ def table_lines():
             yield name + ":" + "".join(end.replace(" refused", "") for end in ends)
 
 
-def is_same(path, lines):
-    with open(path, encoding="ascii") as stored:
-        if stored.read() == "".join(line + "\n" for line in lines):
-            return True
-    print("recordings.py: %s is not what this program makes of the format" % path)
-    return False
-
-
-def main(words):
-    if words == ["write"]:
-        lines = sys.stdin.read().splitlines()
-        sys.stdout.buffer.write(recording(record_of_line(line) for line in lines if line))
-    elif words == ["cases"] or words == ["table"]:
-        for line in case_lines() if words == ["cases"] else table_lines():
-            print(line)
-    elif len(words) == 2 and words[0] == "check":
-        same = [is_same(words[1] + "/data/cases", case_lines()), is_same(words[1] + "/stdout", table_lines())]
-        if not all(same):
-            return 1
-        print("recordings.py: %d cases, none differs" % sum(1 for _ in cases()))
-    else:
-        print(__doc__)
-        return 2
-    return 0
+def files():
+    return {"data/cases": tables.text(case_lines()), "stdout": tables.text(table_lines())}
 
 
 if __name__ == "__main__":
-    sys.exit(main(sys.argv[1:]))
+    sys.exit(tables.main("recording_table", files, sys.argv[1:]))

@@ -1,9 +1,7 @@
 #!/usr/bin/env python3
 """The cases of the validator, and what it has to answer, made apart from the repository's code.
 
-    validity.py STDIN STDOUT            compares the files that the program `validity_table` reads and prints with the
-                                        cases here and their answers
-    validity.py --write STDIN STDOUT    writes them
+    validity_table.py [check|make]      compares crates/validity_table/stdin and stdout with them, or writes them (tests/lib/tables.py)
 
 A case is a module, as a line of hexadecimal. Its answer is `valid` with the operand height and the block depth of each
 body, or `broken` with the number, the body (or `-`) and the item of the first violation. The answers of the tables are
@@ -11,19 +9,15 @@ written out by hand from the standard, and compared with those of `module_valida
 which are grown at random, are `module_validator`'s.
 """
 
-import copy
 import random
 import sys
 
-import module_reader
-import module_validator
-from module_writer import body, module, text
+from lib import module_reader, module_validator, tables
+from lib.module_writer import body, module
+from lib.random_modules import BOTH_TO_I32, GIVES_I32, I32_TO_I64, NOTHING, TAKES_I32, grown_body
 
 GROWN = 300
 
-
-# Function types by what they take and give: nothing, an i32, an i64, two of them, and so on.
-NOTHING, TAKES_I32, GIVES_I32, I32_TO_I64, BOTH_TO_I32 = "60 00 00", "60 01 7F 00", "60 00 01 7F", "60 01 7F 01 7E", "60 02 7F 7E 01 7F"
 
 FUNCTION_IMPORT, TABLE_IMPORT, MEMORY_IMPORT = "01 61 01 66 00 00", "01 61 01 74 01 70 00 01", "01 61 01 6D 02 00 01"
 FIXED_IMPORT, MUTABLE_IMPORT = "01 61 01 67 03 7E 00", "01 61 01 68 03 7F 01"
@@ -378,65 +372,6 @@ BLOCKS = [
 
 ROWS = LISTS + PAIRS + OPERATORS + CALLS + BLOCKS
 
-# Operators to put together at random: with one operand more or less, of this or of the other type.
-PIECES = [
-    "00", "01", "02 40", "02 7F", "02 7E", "03 40", "03 7F", "04 40", "04 7E", "05", "0B", "0C 00", "0C 01", "0D 00", "0D 01",
-    "0E 00 00", "0E 01 00 01", "0E 02 01 00 01", "0F", "10 00", "10 01", "10 02", "11 00 00", "11 01 00", "1A", "1B", "20 00",
-    "20 01", "21 00", "22 01", "23 00", "23 01", "23 02", "24 00", "24 01", "24 02", "28 02 00", "29 03 00", "2C 00 00", "35 02 00", "35 03 00",
-    "36 02 00", "37 03 00", "3E 02 00", "3F 00", "40 00", "41 00", "41 01", "42 00", "42 01", "45", "46", "50", "5A", "67", "6A",
-    "79", "7C", "A7", "AC", "AD",
-]  # fmt: skip
-
-
-def fitting(state, piece):
-    """What the state of a body is behind the operator of this piece, or None where it breaks a rule."""
-    after = copy.deepcopy(state)
-    try:
-        after.step(module_validator.Bytes(piece).operator())
-    except module_validator.Broken:
-        return None
-    return after
-
-
-def closing(state):
-    """What brings the operands of the inmost block to its result."""
-    _, results, base, _ = state.frames[-1]
-    drops = ["1A"] * max(len(state.operands) - base, 0)
-    return [text(piece) for piece in drops + ["41 00" if result == module_validator.I32 else "42 00" for result in results]]
-
-
-def grown_body(rng, decoded, number):
-    """Operators at random, each of which finds its operands, but for one now and then."""
-    function_type = decoded.types[decoded.functions[len(decoded.imported(0)) + number]]
-    state = module_validator.Body(decoded, function_type, ([module_validator.I32, module_validator.I64], []))
-    made, open_blocks = [], []
-    for _ in range(rng.randrange(40)):
-        piece = text(rng.choice(PIECES))
-        if piece[0] in (0x05, 0x0B) and (not open_blocks or (piece[0] == 0x05 and open_blocks[-1] != 0x04)):
-            continue
-        pieces = (closing(state) if piece[0] in (0x05, 0x0B) else []) + [piece]
-        after = state
-        for part in pieces:
-            after = after and fitting(after, part)
-        if after is None and (piece[0] in range(0x02, 0x0C) or rng.random() > 0.02):
-            continue
-        state = after or state
-        made += pieces
-        if piece[0] in (0x02, 0x03, 0x04):
-            open_blocks.append(piece[0])
-        elif piece[0] == 0x05:
-            open_blocks[-1] = 0x05
-        elif piece[0] == 0x0B:
-            open_blocks.pop()
-    while open_blocks:
-        pieces = closing(state) + [b"\x0b"]
-        for part in pieces:
-            state = fitting(state, part) or state
-        made += pieces
-        open_blocks.pop()
-    return body(b"".join(made + closing(state)), "02 01 7F 01 7E")
-
-
 def grown_module(rng):
     def some(*items):
         return [item for item in items if rng.random() < 0.7]
@@ -475,23 +410,10 @@ def cases():
         yield data, answer_of(data)
 
 
-def main():
-    write = sys.argv[1:2] == ["--write"]
-    stdin, stdout = sys.argv[-2:]
-    lines, answers = zip(*((data.hex(), answer) for data, answer in cases()))
-    wanted = {stdin: "\n".join(lines) + "\n", stdout: "\n".join(answers) + "\n"}
-    failed = 0
-    for name, content in wanted.items():
-        if write:
-            with open(name, "w") as file:
-                file.write(content)
-        else:
-            with open(name) as file:
-                failed += file.read() != content
-    print(f"{len(lines)} modules, {sum(answer.startswith('valid') for answer in answers)} of them valid")
-    print(f"{2 - failed} passed, {failed} failed")
-    return failed != 0
+def files():
+    modules, answers = zip(*cases())
+    return {"stdin": tables.text(data.hex() for data in modules), "stdout": tables.text(answers)}
 
 
 if __name__ == "__main__":
-    sys.exit(main())
+    sys.exit(tables.main("validity_table", files, sys.argv[1:]))

@@ -7,9 +7,8 @@ request: a verdict (`("reply", bytes)`, `("exit", code)`, `("trap", text)`, `("s
 `turns` counts the turns of prices, and `reply_text` is the HTTP reply.
 """
 
-import integer_table
-import module_validator
-from module_validator import I32, I64, LOADS, STORES
+from lib import integers, module_validator
+from lib.module_validator import I32, I64, LOADS, STORES
 
 PAGE = 65_536
 MOST_FRAMES, MOST_CELLS = 4_096, 65_536
@@ -19,7 +18,7 @@ HOSTS = {b"fd_read": ([I32] * 4, [I32]), b"fd_write": ([I32] * 4, [I32]), b"proc
 UNKNOWN_IMPORT, IMPORT_TYPE, IMPORT_KIND, NO_START, START_SHAPE, SEGMENT_RANGE, TOO_MANY_PAGES = range(50, 57)
 BITS = {I32: 32, I64: 64}
 SIGNED_LOADS = {0x2C: 8, 0x2E: 16, 0x30: 8, 0x32: 16, 0x34: 32}
-NUMERIC = {byte: (function, bits, one) for byte, function, bits, one in integer_table.operators()}
+NUMERIC = {byte: (function, bits, one) for byte, function, bits, one in integers.operators()}
 TRAPS = {"by-zero": "integer divide by zero", "overflow": "integer overflow"}
 
 
@@ -232,9 +231,8 @@ class Machine:
                 self.memory[at : at + len(left[:length])] = left[:length]
                 left = left[length:]
         else:
-            gathered = b"".join(bytes(self.memory[at : at + length]) for at, length in buffers)
-            if descriptor == 1:
-                self.reply += gathered
+            if descriptor == 1:  # what goes to 2 is dropped, and may be nearly 4 GiB long
+                self.reply += b"".join(bytes(self.memory[at : at + length]) for at, length in buffers)
         self.memory[place : place + 4] = moved.to_bytes(4, "little")
         return 0
 
@@ -251,7 +249,7 @@ class Machine:
         at = self.address(frame, operator, count)
         value = int.from_bytes(self.memory[at : at + count], "little")
         if operator[0] in SIGNED_LOADS:
-            value = integer_table.signed(value, SIGNED_LOADS[operator[0]]) % 2 ** BITS[kind]
+            value = integers.signed(value, SIGNED_LOADS[operator[0]]) % 2 ** BITS[kind]
         frame.operands.append(value)
 
     def store(self, frame, operator):

@@ -17,11 +17,9 @@ import random
 import sys
 import tempfile
 
-import interpreter
-import module_reader
-import module_table
-import module_validator
-from running import build, lay, run
+from lib import interpreter, module_reader, module_validator
+from lib.running import build, lay, run
+from lib.whole_modules import ECHO, NOTHING
 
 
 def module(*sections):
@@ -113,14 +111,13 @@ def limit_files():
 
 # Modules, and where their sections end: there a cut module is read, or as many bodies as functions are missing.
 CUTS = [
-    (module_table.NOTHING, (8, 14), (18, 30)),
-    (module_table.ECHO, (8, 22, 92, 253), (96, 101, 111, 132)),
+    (NOTHING, (8, 14), (18, 30)),
+    (ECHO, (8, 22, 92, 253), (96, 101, 111, 132)),
 ]
 
 
 def cut_files():
-    for spelling, read, without_bodies in CUTS:
-        whole = bytes.fromhex(spelling)
+    for whole, read, without_bodies in CUTS:
         for length in range(len(whole)):
             refusal = None if length in read else (20 if length in without_bodies else 1, length)
             yield f"the first {length} of {len(whole)} bytes", whole[:length], refusal

@@ -70,7 +70,8 @@ class Json:
         if not found:
             self.fail()
         self.at = found.end()
-        if not (found[2] or found[3] or found[0][0] == "-") and int(found[0]) < 1 << 64:
+        # Python makes no number of more than some thousand digits; one of more than 20 is above 2^64.
+        if not (found[2] or found[3] or found[0][0] == "-") and len(found[0]) <= 20 and int(found[0]) < 1 << 64:
             return int(found[0])
         value = float(found[0])
         if value in (float("inf"), float("-inf")):

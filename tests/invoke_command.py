@@ -9,8 +9,8 @@ Each expected text is written out here from the formats of docs/FORMATS.md.
 import sys
 import tempfile
 
-from running import build, differs, lay, run
-from whole_modules import ECHO, ENDLESS, MOST_FRAMES, NOTHING, ONE_FUNCTION, PAGE_FILLER, START, TAKES_NOTHING, TOO_MANY_FRAMES, ZERO_READER, text
+from lib.running import build, differs, lay, run
+from lib.whole_modules import ECHO, ENDLESS, MOST_FRAMES, NOTHING, ONE_FUNCTION, PAGE_FILLER, START, TAKES_NOTHING, TOO_MANY_FRAMES, ZERO_READER, text
 
 
 def module(body, types=TAKES_NOTHING):

@@ -3,14 +3,15 @@
 import os
 import subprocess
 import tempfile
+import threading
 from concurrent.futures import ThreadPoolExecutor
 
-import interpreter
-import module_validator
+from lib import interpreter, module_validator
 
-TOP = os.path.join(os.path.dirname(os.path.abspath(__file__)), "..")
+TOP = os.path.join(os.path.dirname(os.path.abspath(__file__)), "..", "..")
 SCRIPT = os.path.join(TOP, "sledge")
 PROGRAM = os.path.join(TOP, "crates", "sledge", "out", "sledge")
+BUILD_LIMIT, RUN_LIMIT = 4 * 3600, 120  # seconds that a build, and that a run may take
 
 
 class Case:
@@ -32,7 +33,7 @@ class Case:
 
 def build():
     """Builds the program where it is not built."""
-    subprocess.run([SCRIPT, "--help"], check=True, stdout=subprocess.DEVNULL)
+    subprocess.run([SCRIPT, "--version"], check=True, stdout=subprocess.DEVNULL, timeout=BUILD_LIMIT)
 
 
 def lay(folder, contents):
@@ -44,8 +45,21 @@ def lay(folder, contents):
 
 def run(words, folder, **streams):
     """Exit status, standard output and standard error of the program with these words in this folder; None for a stream of one's own."""
-    done = subprocess.run([PROGRAM, *words], cwd=folder, timeout=120, **{"stdout": subprocess.PIPE, "stderr": subprocess.PIPE, **streams})
+    done = subprocess.run([PROGRAM, *words], cwd=folder, timeout=RUN_LIMIT, **{"stdout": subprocess.PIPE, "stderr": subprocess.PIPE, **streams})
     return done.returncode, done.stdout, done.stderr
+
+
+def measured(words, folder, limit=600):
+    """What a run used (`ru_utime`, `ru_maxrss` and so on), its exit status, standard output and standard error. It is ended at the limit, in seconds."""
+    with tempfile.TemporaryFile() as out, tempfile.TemporaryFile() as notes:
+        child = subprocess.Popen(words, cwd=folder, stdin=subprocess.DEVNULL, stdout=out, stderr=notes)
+        end = threading.Timer(limit, child.kill)
+        end.start()
+        _, status, usage = os.wait4(child.pid, 0)
+        end.cancel()
+        child.returncode = os.waitstatus_to_exitcode(status)
+        out.seek(0), notes.seek(0)
+        return usage, child.returncode, out.read(), notes.read()
 
 
 def differs(name, wanted, got):

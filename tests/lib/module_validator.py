@@ -278,7 +278,8 @@ class Body:
     def access(self, byte, align, _):
         self.item(self.module.memories, 0)
         value, width = LOADS.get(byte) or STORES[byte]
-        self.need(2**align <= width, BAD_ALIGN)
+        # An alignment is any number of 32 bits, and 2 to the power of it may have half a gigabyte of digits.
+        self.need(align < 32 and 2**align <= width, BAD_ALIGN)
         if byte in STORES:
             self.pop(value)
         self.pop(I32)

@@ -12,8 +12,8 @@ import json
 import sys
 import tempfile
 
-from running import TOP, build, differs, lay, run
-from whole_modules import ECHO, NOTHING
+from lib.running import TOP, build, differs, lay, run
+from lib.whole_modules import ECHO, NOTHING
 
 CONFIG = {
     "workers": 2,

@@ -12,9 +12,9 @@ import os
 import sys
 import tempfile
 
-import recordings
-from replays import MODULES, Connection, Item, Route, Tenant, due, request
-from running import TOP, build, differs, lay, run
+from lib import recordings
+from lib.replays import MODULES, Connection, Item, Route, Tenant, due, request
+from lib.running import TOP, build, differs, lay, run
 
 CONFIG = {
     "workers": 2, "quantum": 1000, "policy": "rr", "berths": 2,

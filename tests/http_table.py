@@ -1,121 +1,19 @@
 #!/usr/bin/env python3
-"""Streams of HTTP/1.1 requests by a reader of their own, and replies by a table of their own.
+"""Streams of HTTP/1.1 requests by a reader of their own (tests/lib/http_reader.py), and replies by a table of their own.
 
-The reader is written from docs/FORMATS.md ("HTTP") and RFC 9112 alone, over the whole stream at once; nothing
-here is taken from the program, which reads its streams in pieces. The rows below are written out by hand.
+The rows below are written out by hand. The program reads the streams in pieces, and nothing here is taken from it.
 
-    http_items.py STDIN STDOUT            compares the two files with what is said here
-    http_items.py --write STDIN STDOUT    writes them
+    http_table.py [check|make]      compares crates/http_table/stdin and stdout with them, or writes them (tests/lib/tables.py)
 """
 
 import random
 import re
 import sys
 
-MOST_HEAD = 8192
-MOST_LINES = 128
-MOST_BODY = 1048576
-
-HEAD = re.compile(
-    rb"(?:\r?\n)*"
-    rb"(?P<method>[!#$%&'*+\-.^_`|~0-9A-Za-z]+) (?P<target>[\x21-\x7e\x80-\xff]+) HTTP/1\.(?P<minor>[01])\r?\n"
-    rb"(?P<lines>(?:[!#$%&'*+\-.^_`|~0-9A-Za-z]+:[\t\x20-\x7e\x80-\xff]*\r?\n)*)"
-    rb"\r?\n"
-)
-LINE = re.compile(rb"(?P<name>[^:]+):(?P<value>[^\r\n]*)\r?\n")
-TARGET = re.compile(rb"(?:(?=/)|[hH][tT][tT][pP]://[^/?]+(?=[/?]|$))(?P<path>[^?]*)")
-
-
-def head_of(stream):
-    """The match of the head in front of the stream, if it has one."""
-    match = HEAD.match(stream[:MOST_HEAD])
-    if match is None:
-        return None
-    if match["lines"].count(b"\n") > MOST_LINES:
-        return None
-    try:
-        match["target"].decode("utf-8")
-    except UnicodeDecodeError:
-        return None
-    return match
-
-
-def mark_of(body):
-    mark = 0
-    for byte in body:
-        mark = (mark * 31 + byte) % (1 << 32)
-    return mark
-
-
-def fault(number, head=False, keep=False):
-    return "%d %s %s;" % (number, "head" if head else "whole", "keep" if keep else "close")
-
-
-def items_of(stream, ended):
-    """What the stream asks, item by item."""
-    while True:
-        match = head_of(stream)
-        if match is None:
-            if stream == b"" or (ended and len(stream) < MOST_HEAD and re.fullmatch(rb"(?:\r\n)*", stream)):
-                return
-            if len(stream) >= MOST_HEAD or ended:
-                yield fault(1)
-            return
-        stream = stream[match.end() :]
-        method = match["method"]
-        head = method == b"HEAD"
-        lines = [(line["name"].lower(), line["value"].strip(b" \t")) for line in LINE.finditer(match["lines"])]
-        old = match["minor"] == b"0"
-        if not old and [name for name, _ in lines].count(b"host") != 1:
-            yield fault(2, head)
-            return
-        if any(name == b"transfer-encoding" for name, _ in lines):
-            yield fault(3, head)
-            return
-        lengths = [value for name, value in lines if name == b"content-length"]
-        if len(lengths) > 1 or not all(re.fullmatch(rb"[0-9]+", value) for value in lengths):
-            yield fault(4, head)
-            return
-        digits = lengths[0].lstrip(b"0") if lengths else b""
-        if len(digits) > 7 or (digits and int(digits) > MOST_BODY):
-            yield fault(5, head)
-            return
-        size = int(digits or b"0")
-        if len(stream) < size:
-            if ended:
-                yield fault(6, head)
-            return
-        body, stream = stream[:size], stream[size:]
-        words = b",".join(value for name, value in lines if name == b"connection").split(b",")
-        keep = not old and not any(word.strip(b" \t").lower() == b"close" for word in words)
-        target = match["target"]
-        form = TARGET.match(target) if re.fullmatch(rb"[\x21-\x7e]+", target) else None
-        if form is None:
-            yield fault(7, head)
-            return
-        if method not in (b"GET", b"HEAD", b"POST"):
-            yield fault(8, head, keep)
-        else:
-            path = form["path"] or b"/"
-            yield "%s %s %s %d:%d;" % (method.decode(), path.decode(), "keep" if keep else "close", size, mark_of(body))
-        if not keep:
-            return
-
+from lib import tables
+from lib.http_reader import MOST_BODY, REFUSALS, items_of, mark_of
 
 # Replies.
-
-REFUSALS = {
-    1: ("400 Bad Request", "bad request: head"),
-    2: ("400 Bad Request", "bad request: host"),
-    3: ("501 Not Implemented", "not implemented: transfer coding"),
-    4: ("400 Bad Request", "bad request: content length"),
-    5: ("413 Payload Too Large", "payload too large"),
-    6: ("400 Bad Request", "bad request: cut body"),
-    7: ("400 Bad Request", "bad request: target"),
-    8: ("405 Method Not Allowed", "method not allowed"),
-    9: ("404 Not Found", "no route"),
-    10: ("503 Service Unavailable", "admission spent"),
-}
 
 OUTCOMES = (
     [("bytes", body.hex(), "200 OK", "text/html", body) for body in (b"", b"hi", b"ab\r\nc\0\xff", b"x" * 1000)]
@@ -386,35 +284,10 @@ def all_lines():
     yield from reply_rows()
 
 
-def main():
-    write = sys.argv[1:2] == ["--write"]
-    stdin, stdout = sys.argv[-2:]
-    lines = list(all_lines())
-    if write:
-        with open(stdin, "w") as file:
-            file.writelines(line + "\n" for line, _ in lines)
-        with open(stdout, "w") as file:
-            file.writelines(answer + "\n" for _, answer in lines)
-        return 0
-    with open(stdin) as file:
-        given = file.read().split("\n")[:-1]
-    with open(stdout) as file:
-        found = file.read().split("\n")[:-1]
-    if given != [line for line, _ in lines]:
-        print("the cases of %s are not those that are made here" % stdin)
-        return 1
-    wrong = 0
-    for (line, answer), other in zip(lines, found):
-        if answer != other:
-            wrong += 1
-            if wrong <= 10:
-                print("%s\n  is %r and should be %r" % (line[:300], other[:300], answer[:300]))
-    if len(found) != len(lines) or wrong:
-        print("%d of %d answers differ, with %d found" % (wrong, len(lines), len(found)))
-        return 1
-    print("all %d answers are the same" % len(lines))
-    return 0
+def files():
+    lines, answers = zip(*all_lines())
+    return {"stdin": tables.text(lines), "stdout": tables.text(answers)}
 
 
 if __name__ == "__main__":
-    sys.exit(main())
+    sys.exit(tables.main("http_table", files, sys.argv[1:]))

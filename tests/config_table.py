@@ -1,9 +1,7 @@
 #!/usr/bin/env python3
 """Configurations, as docs/FORMATS.md describes them: cases, and what a reader apart from the repository's code says of them.
 
-    configurations.py cases            prints the cases that `crates/config_table` reads
-    configurations.py table            prints what it must print of them
-    configurations.py check FOLDER     compares both with FOLDER/data/cases and FOLDER/stdout
+    config_table.py [check|make]      compares crates/config_table/data/cases and stdout with them, or writes them (tests/lib/tables.py)
 
 A case is a line: `read HEX NAME` asks for the configuration of these bytes, `size COUNT HEX NAME` for
 that of these bytes with blanks behind them up to so many bytes, and `find TENANT HEX` for the route
@@ -15,7 +13,7 @@ import json
 import random
 import sys
 
-import config_reader
+from lib import config_reader, tables
 
 FIRST = {
     "workers": 2, "quantum": 1000, "policy": "rr", "berths": 2,
@@ -351,23 +349,10 @@ def answer(data):
         return "refused %d" % refused.number
 
 
-def main(words):
-    lines = list(cases())
-    texts = ["".join(line[side] + "\n" for line in lines) for side in (0, 1)]
-    if words in (["cases"], ["table"]):
-        sys.stdout.write(texts[words == ["table"]])
-        return 0
-    if len(words) == 2 and words[0] == "check":
-        for name, text in zip(("data/cases", "stdout"), texts):
-            with open("%s/%s" % (words[1], name), encoding="utf-8") as file:
-                if file.read() != text:
-                    print("configurations: %s/%s differs" % (words[1], name), file=sys.stderr)
-                    return 1
-        print("configurations: %d cases agree" % len(lines))
-        return 0
-    sys.stderr.write(__doc__)
-    return 2
+def files():
+    lines, answers = zip(*cases())
+    return {"data/cases": tables.text(lines), "stdout": tables.text(answers)}
 
 
 if __name__ == "__main__":
-    sys.exit(main(sys.argv[1:]))
+    sys.exit(tables.main("config_table", files, sys.argv[1:]))

@@ -33,7 +33,7 @@ def seconds(count, step, piece, items):
     times = []
     for _ in range(RUNS):
         start = time.monotonic()
-        done = subprocess.run([PROGRAM], input=line.encode(), capture_output=True, check=True)
+        done = subprocess.run([PROGRAM], input=line.encode(), capture_output=True, check=True, timeout=600)
         times.append(time.monotonic() - start)
         assert done.stdout == b" %d\n" % items, done.stdout[:100]
     return min(times)

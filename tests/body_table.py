@@ -5,11 +5,12 @@ The spellings and what they mean are those of WebAssembly Core 1.0, section 5.4,
 the numbers of refusals and the limits are those of docs/FORMATS.md. Nothing here is taken from what the
 program prints.
 
-    body_table.py STDIN STDOUT            compares the two files with the tables
-    body_table.py --write STDIN STDOUT    writes the tables there
+    body_table.py [check|make]      compares crates/body_table/stdin and stdout with the tables, or writes them (tests/lib/tables.py)
 """
 
 import sys
+
+from lib import tables
 
 TEXTS = {
     1: "the bytes end within an item",
@@ -310,22 +311,10 @@ def rows():
     yield "000e8020" + "00" * 4097 + "0b", "[0, 2, 4097] Some(BrTable { from: 0, count: 4096 })"
 
 
-def main():
-    words = sys.argv[1:]
-    tables = ["".join(line + "\n" for line in column) for column in zip(*rows())]
-    if words[:1] == ["--write"]:
-        for path, table in zip(words[1:], tables):
-            with open(path, "w") as stored:
-                stored.write(table)
-        return 0
-    for path, table in zip(words, tables):
-        with open(path) as stored:
-            if stored.read() != table:
-                print("body_table: %s is not what the tables make" % path)
-                return 1
-    print("body_table: %d bodies agree" % len(list(rows())))
-    return 0
+def files():
+    stdin, stdout = zip(*rows())
+    return {"stdin": tables.text(stdin), "stdout": tables.text(stdout)}
 
 
 if __name__ == "__main__":
-    sys.exit(main())
+    sys.exit(tables.main("body_table", files, sys.argv[1:]))

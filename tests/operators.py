@@ -2,15 +2,15 @@
 """Runs a small module for every operator through the built program.
 
 Each module reaches `unreachable` where an operator does not give what was computed apart: for integer operators by
-`integer_table`, else by the rows here. Its whole reply and its units are compared with the interpreter in Python too.
+`integers`, else by the rows here. Its whole reply and its units are compared with the interpreter in Python too.
 """
 
 import sys
 
-import integer_table
-from interpreter import PAGE
-from module_writer import body, module, number, signed, text
-from running import Case, compare
+from lib import integers
+from lib.interpreter import PAGE
+from lib.module_writer import body, module, number, signed, text
+from lib.running import Case, compare
 
 CONST, EQUAL = {32: b"\x41", 64: b"\x42"}, {32: b"\x46", 64: b"\x51"}
 IF_NOT_TRAP = bytes.fromhex("45 04 40 00 0B")
@@ -18,7 +18,7 @@ START = ["06 5F 73 74 61 72 74 00 00"]
 
 
 def const(value, bits):
-    return CONST[bits] + signed(integer_table.signed(value % (1 << bits), bits))
+    return CONST[bits] + signed(integers.signed(value % (1 << bits), bits))
 
 
 def expects(value, bits):
@@ -40,10 +40,10 @@ def result_bits(byte, bits):
 
 
 def integer_cases():
-    for byte, function, bits, one in integer_table.operators():
+    for byte, function, bits, one in integers.operators():
         right, traps, sample = b"", [], None
-        for a in integer_table.operands(bits):
-            for b in [None] if one else integer_table.operands(bits):
+        for a in integers.operands(bits):
+            for b in [None] if one else integers.operands(bits):
                 given = const(a, bits) + (b"" if one else const(b, bits)) + bytes([byte])
                 result = function(a, bits) if one else function(a, b, bits)
                 if isinstance(result, str):

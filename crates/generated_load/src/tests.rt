@@ -1,4 +1,4 @@
-//! What no clause says: that each call succeeds with ample memory, and single requests to the byte, which `tests/soak.py` computes apart from this code.
+//! What no clause says: that each call succeeds with ample memory, and single requests to the byte, which `tests/soak_command.py` computes apart from this code.
 
 use crate::{soak_config, soak_programs, soak_recording};
 use recording_format::{Event, Recording};

@@ -96,7 +96,7 @@ impl Library for Shelf {
 
     ghost gave = { ShelfGave };
 
-    ghost tells = { λ old new name most fetched given. given };
+    ghost tells = { λ old new name most fetched given. given.tells };
 
     fn read(&mut self, alloc: Global, name: &str, most: u64) -> Result<Vec<u8>, Fetch>
         ensures given { CameTo result (ShelfGave self.old self.new name.now most) }

@@ -1,4 +1,4 @@
-//! The reader on one module of every part, and its refusals. `tests/module_table.py` has the tables, and `tests/modules.py` the files at their limits.
+//! The reader on one module of every part, and its refusals. `tests/module_table.py` has the tables, and `tests/changed_modules.py` the files at their limits.
 
 use crate::{ReadFault, read_module};
 use std::alloc::Global;

@@ -1,3 +1,4 @@
+pub mod AcceptedLaws
 pub mod BytesRead
 pub mod CheckLaws
 pub mod CheckWalks
@@ -12,5 +13,6 @@ pub mod RecordingLaws
 pub mod ReplayLaws
 pub mod ReplayWalks
 pub mod SoakLaws
+pub mod SoakWords
 pub mod SoakWalks
 pub mod Walking

@@ -56,7 +56,7 @@ pub recording_refused : (words : List (List ℕ)) (files : Files) (r : ReplayWor
 recording_refused words files r c programs file why is h held refused = from_ready words files r c programs is h ∙ from_read files r.recording_name c programs file (Err why) held refused
 
 -- the recording is replayed, unless it has too many items
-recorded : (words : List (List ℕ)) (files : Files) (r : ReplayWords) (c : Configuration) (programs : List Program) (file : List ℕ) (records : List Record) (many : Bool) → command_of words ≡ Some (AsksReplay r) → Ready r files c programs
+pub recorded : (words : List (List ℕ)) (files : Files) (r : ReplayWords) (c : Configuration) (programs : List Program) (file : List ℕ) (records : List Record) (many : Bool) → command_of words ≡ Some (AsksReplay r) → Ready r files c programs
     → files r.recording_name ≡ Some file → recording_of (length c.tenants) file ≡ Ok records → has_too_many records ≡ many → ending words files ≡ unless_too_many many c programs records
 recorded words files r c programs file records many is h held read counts =
     from_ready words files r c programs is h ∙ from_read files r.recording_name c programs file (Ok records) held read

@@ -1,3 +1,4 @@
+pub mod AcceptedFiles
 pub mod CheckPlans
 pub mod CommandLine
 pub mod Commands

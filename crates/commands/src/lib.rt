@@ -11,6 +11,7 @@
 //! check and run.
 #![tactic(auto)]
 
+pub mod accepted_laws;
 pub mod check_laws;
 mod checking;
 mod command;

@@ -16,7 +16,7 @@ ghost use Rattle.commands.specs.ReplayPlans.{summary_line};
 ghost use Rattle.commands.specs.SoakPlans.{soak_loaded};
 ghost use Rattle.commands.specs.declared.status.Status.TheVariants.{Ok as IsDone};
 
-use generated_load::laws::load_is_whole;
+use generated_load::laws::{load_has_its_requests, load_is_whole};
 
 /// How a `soak` ends, whatever the files: it reads none.
 pub fn soak_endings()
@@ -33,6 +33,12 @@ pub fn soak_endings()
         → command_of words ≡ Some (AsksSoak s) → has_too_many (soak_records s.start s.count) ≡ true
         → ending words files ≡ recording_fault too_many_requests }
 
+    // A load never has more, so each `soak` ends so: none is refused for the number of its items.
+    ensures always { (words : List (List ℕ)) (files : Files) (s : SoakWords)
+        → command_of words ≡ Some (AsksSoak s)
+        → ending words files ≡ shown (summary_line
+        (summary_of soak_configuration soak_loaded (soak_records s.start s.count))) }
+
     // And so it is where it ends with status 0.
     ensures answered { (words : List (List ℕ)) (files : Files) (s : SoakWords)
         → command_of words ≡ Some (AsksSoak s) → status_of (ending words files) ≡ IsDone
@@ -40,4 +46,5 @@ pub fn soak_endings()
         (summary_of soak_configuration soak_loaded (soak_records s.start s.count))) }
 {
     load_is_whole();
+    load_has_its_requests();
 }

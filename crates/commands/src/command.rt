@@ -17,7 +17,7 @@ const MOST_REQUESTS: u64 = 4096;
 const MOST_DIGITS: usize = 20;
 
 /// A command with its words.
-#[derive(Clone, Copy, Debug)]
+#[derive(Clone, Copy)]
 pub enum Command<'a> {
     /// `--help`: shows every shape and every status.
     Help,
@@ -34,7 +34,7 @@ pub enum Command<'a> {
 }
 
 /// The words of a `soak`.
-#[derive(Clone, Copy, Debug)]
+#[derive(Clone, Copy)]
 pub struct Soak {
     /// Where the load's generator starts.
     pub start: u64,
@@ -43,7 +43,7 @@ pub struct Soak {
 }
 
 /// The words of a `replay`.
-#[derive(Clone, Copy, Debug)]
+#[derive(Clone, Copy)]
 pub struct Replay<'a> {
     /// The name of the file with the configuration.
     pub config_name: &'a str,
@@ -52,7 +52,7 @@ pub struct Replay<'a> {
 }
 
 /// The words of an `invoke`.
-#[derive(Clone, Copy, Debug)]
+#[derive(Clone, Copy)]
 pub struct Invoke<'a> {
     /// The name of the file with the module.
     pub module_name: &'a str,

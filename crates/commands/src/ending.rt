@@ -16,7 +16,7 @@ use std::alloc::{AllocError, Global};
 use std::marker::Model;
 
 /// What a command has to say, before any of it is written.
-#[derive(Debug, Drop)]
+#[derive(Drop)]
 pub struct Ending {
     status: Status,
     text: Vec<u8>,

@@ -6,7 +6,7 @@ ghost use Rattle.std.specs.Prelude.{◌≡◌};
 ///
 /// Each status but `Ok` is a refusal or a fault; the process ends with `code`, and but for a
 /// `WriteFault` the notes have one line that says the same.
-#[derive(Clone, Copy, Debug, PartialEq, Eq)]
+#[derive(Clone, Copy)]
 pub enum Status {
     /// The command was carried out and all that it had to say was written.
     Ok,

@@ -1,7 +1,7 @@
 //! Why a file's bytes are made into no program.
 
 /// Why a file's bytes are made into no program.
-#[derive(Clone, Copy, Debug, PartialEq, Eq)]
+#[derive(Clone, Copy)]
 pub enum Unmade {
     /// They are no module (1 to 24), it breaks a rule (30 to 43), or it is not linked (50 to 56).
     Unfit {

@@ -24,13 +24,24 @@ pub struct Cut {
 
 /// A sink in memory with a fixed room, which shows what it has taken and fails only at the calls
 /// that it was told and where its room ends.
-#[derive(Debug, Drop)]
 pub struct Page {
     bytes: Vec<u8>,
     room: u64,
     failing: Vec<Cut>,
     calls: u64,
     faults: u64,
+}
+
+impl Drop for Page {
+    fn drop(self) {
+        let Page {
+            bytes: _,
+            room: _,
+            failing: _,
+            calls: _,
+            faults: _,
+        } = self;
+    }
 }
 
 impl Model for Page {

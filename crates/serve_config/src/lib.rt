@@ -29,5 +29,3 @@ pub use refusals::Refusal;
 pub use routers::Routes;
 pub use tenants::{Route, Tenant};
 
-#[cfg(test)]
-mod tests;

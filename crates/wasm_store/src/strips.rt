@@ -9,10 +9,15 @@ use std::marker::Model;
 pub const PAGE: usize = 65_536;
 
 /// A block of whole pages of its own, given back when the strip is dropped. Contracts see it as the list of its bytes.
-#[derive(Drop)]
 pub struct Strip {
     bytes: Vec<u8>,
     pages: u32,
+}
+
+impl Drop for Strip {
+    fn drop(self) {
+        let Strip { bytes: _, pages: _ } = self;
+    }
 }
 
 impl Model for Strip {

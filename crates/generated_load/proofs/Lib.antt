@@ -12,3 +12,4 @@ pub mod Heads
 pub mod Items
 pub mod Pieces
 pub mod LoadItems
+mod LoadExamples

@@ -52,6 +52,11 @@ def rows():
     yield "length past the end", 1, MAGIC + OPEN + piece(5, 0, b"xy")[:-1]
     yield "greatest length", 1, recording([OPEN, struct.pack("<BIII", PIECE, 5, 0, 2**32 - 1), b"x"])
     yield "length that takes the end", 1, MAGIC + OPEN + struct.pack("<BIII", PIECE, 5, 0, 1) + b"\0"
+    most = [begin(0, link, 0) for link in range(MOST_CONNECTIONS)]
+    yield "as many connections as there may be", 1, recording(most)
+    yield "one connection more", 1, recording([*most, begin(0, MOST_CONNECTIONS, 0)])
+    yield "one connection more, cut in its tenant", 1, MAGIC + b"".join(most) + begin(0, MOST_CONNECTIONS, 0)[:12]
+    yield "one connection more, of the next link but one", 1, recording([*most, begin(0, MOST_CONNECTIONS + 1, 0)])
 
 
 def two_faults():

@@ -172,6 +172,7 @@ WORDS = [
     ("replay none recording", 3, b"read none\n"),
     ("replay recording recording", 4, b"config 60\n"),
     ("replay config long", 6, b"recording 76\n"),
+    ("replay config most", 6, b"recording 70\n"),
     # The configuration comes before its modules, and they before the recording.
     ("replay broken none", 5, b"module 15 0 0\n"),
 ]
@@ -188,7 +189,7 @@ def with_words(folder):
     """The same of other words beside the files of the two requests."""
     tenant = CONFIG["tenants"][0]
     broken = changed(CONFIG, tenants=[changed(tenant, routes=[changed(tenant["routes"][1], module="config")])])
-    lay(folder, {"broken": json.dumps(broken).encode(), "long": bytes((32 << 20) + 1)})
+    lay(folder, {"broken": json.dumps(broken).encode(), "long": bytes((32 << 20) + 1), "most": bytes(32 << 20)})
     for words, status, notes in WORDS:
         yield words, (status, b"", notes), run(words.split(" "), folder)
 

@@ -10,5 +10,3 @@ mod meters;
 
 pub use meters::{Admission, Meter};
 
-#[cfg(test)]
-mod tests;

@@ -17,5 +17,3 @@ pub use configuration::soak_config;
 pub use programs::soak_programs;
 pub use recording::soak_recording;
 
-#[cfg(test)]
-mod tests;

@@ -19,5 +19,3 @@ pub use recordings::Recording;
 pub use records::{Event, Piece, Record};
 pub use refusals::Refusal;
 
-#[cfg(test)]
-mod tests;

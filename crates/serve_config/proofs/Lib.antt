@@ -11,3 +11,4 @@ pub mod Programs
 mod Places
 mod Loadings
 mod ToldLoads
+pub mod Accepting

@@ -31,5 +31,3 @@ pub use refusals::Refusal;
 pub use routers::Routes;
 pub use tenants::{Route, Tenant};
 
-#[cfg(test)]
-mod tests;

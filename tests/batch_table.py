@@ -57,7 +57,7 @@ def due(place):
     return place // 2 * 29 % 41
 
 
-def lines_of(gate, workers, quantum, policy, berths, pages, requests):
+def lines_of(gate, workers, quantum, policy, berths, pages, requests, due=due):
     """The lines of a batch, and those that must be printed of it."""
     answers = [in_turns.answer(*became(*request, pages), quantum) for request in requests]
     read = ["%s %d %d %s %d %d" % (gate, workers, quantum, policy, berths, pages)]
@@ -111,9 +111,50 @@ def held():
     yield read, [*wanted, "passes %d, %s" % (passes, TAKEN_OVER)]
 
 
+def order(policy, quantum, berths, pages, deadlines, requests):
+    """The places of the turns, one by one, where there is a single worker: while a berth is free and a request waits, the next one begins; else one goes on that was stopped, the one that waits longest or the one whose deadline is next."""
+    waits, stopped, free, passed = list(range(len(requests))), [], berths, []
+    left = [interpreter.turns(became(*request, pages)[1], quantum) for request in requests]
+    while waits or stopped:
+        if free and waits:
+            place, free = waits.pop(0), free - 1
+        else:
+            place = stopped[0] if policy == "rr" else min(stopped, key=lambda place: (deadlines[place], place))
+            stopped.remove(place)
+        passed.append(place)
+        left[place] -= 1
+        if left[place]:
+            stopped.append(place)
+        else:
+            free += 1
+    return " ".join(map(str, passed))
+
+
+# what a worker alone passes with four endless requests on three berths, by each policy
+IN_TURN = "0 1 2 0 1 2 0 1 2 0 3 1 2 3 3 3"
+BY_DEADLINE = "0 1 2 1 1 1 3 3 3 3 2 2 2 0 0 0"
+
+
+def noted():
+    """The order of the turns of one worker, by both policies: with deadlines two of which are the same, in the order of the places, against it, and with requests of different lengths."""
+    endless, deadlines = [(ENDLESS, b"", 300)] * 4, [9, 5, 5, 1]
+    assert [order(policy, 100, 3, 2, deadlines, endless) for policy in POLICIES] == [IN_TURN, BY_DEADLINE]
+    longer = [(ENDLESS, b"", budget) for budget in (500, 0, 300, 100, 700, 200)]
+    for requests, berths, deadlines in [
+        (endless, 3, deadlines),
+        (endless, 4, [1, 2, 3, 4]),
+        (endless, 2, [4, 3, 2, 1]),
+        (longer, 3, [30, 2**64 - 1, 20, 20, 0, 10]),
+        (taken(MIXED, 12), 5, [due(place) for place in range(12)]),
+    ]:
+        for policy in POLICIES:
+            read, wanted = lines_of("noted", 1, 100, policy, berths, 2, requests, deadlines.__getitem__)
+            yield read, [*wanted, "places " + order(policy, 100, berths, 2, deadlines, requests)]
+
+
 def batches():
     """The lines of each batch, and what must be printed of it."""
-    for made in (sizes(), mixed(), berths(), refused(), held()):
+    for made in (sizes(), mixed(), berths(), refused(), held(), noted()):
         yield from made
 
 

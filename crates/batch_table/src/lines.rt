@@ -11,6 +11,9 @@ pub enum GateKind {
 
     /// One that holds workers until it has seen a take-over.
     Held,
+
+    /// One that notes each pass.
+    Noted,
 }
 
 /// The first line of a batch.
@@ -37,6 +40,7 @@ impl Head {
             gate: match words.next()? {
                 "open" => GateKind::Open,
                 "held" => GateKind::Held,
+                "noted" => GateKind::Noted,
                 _ => return None,
             },
             settings: Settings {

@@ -1,25 +1,27 @@
 //! Runs batches of requests by several workers, and prints the answer to each request.
 //!
 //! Standard input has batches, each ended by an empty line. Words are separated by blanks; a module and a body stand in hexadecimal, `-` for no bytes.
-//! The first line of a batch is `GATE WORKERS QUANTUM POLICY BERTHS PAGES`. The gate is `open` or `held`, the policy `rr` or `edf`; the pages are those of each berth, and each module is given as many. Each line behind it is a request, `MODULE BODY BUDGET DEADLINE`.
+//! The first line of a batch is `GATE WORKERS QUANTUM POLICY BERTHS PAGES`. The gate is `open`, `held` or `noted`, the policy `rr` or `edf`; the pages are those of each berth, and each module is given as many. Each line behind it is a request, `MODULE BODY BUDGET DEADLINE`.
 //! A batch is printed as `answers` with their number, and behind it the answers in the order of the requests, a line each: the verdict, the units and the turns. A line that is no request, or of a module that is refused, is left out. A batch whose first line has no settings within the limits is printed as `no batch`.
-//! Behind the answers of a batch with the gate `held` stand how often this was passed, and whether one worker took over what another had begun while it held that other (`gates.rt`).
-//! `tests/batch_table.py` makes the batches, and computes from the standard alone what must be printed of them. The program stands on `workers` and what is below it.
+//! Behind the answers of a batch with the gate `held` stand how often this was passed, and whether one worker took over what another had begun while it held that other. Behind those of one with the gate `noted` stand the places of the first 1,024 passes, in their order.
+//! `tests/batch_table.py` makes the batches, and computes from the standard alone what must be printed of them. The program stands on `workers` and what is below it, and on `holding_gate`.
 #![tactic(auto)]
 
 mod answers;
 mod batches;
-mod gates;
 mod lines;
 mod programs;
 
 use answers::print_answers;
 use batches::Batch;
-use gates::HoldingGate;
+use holding_gate::{HoldingGate, NotingGate};
 use lines::{GateKind, Head};
 use std::io;
 use std::thread::Threads;
 use workers::{Gate, OpenGate};
+
+/// How many passes a gate that notes them has room for.
+const MOST_NOTES: u32 = 1_024;
 
 /// Runs a batch, and prints its answers.
 fn print_run<R: Threads + Sync + Print + AllocGlobal, G: Gate>(
@@ -37,10 +39,37 @@ fn print_run<R: Threads + Sync + Print + AllocGlobal, G: Gate>(
 fn print_held<R: Threads + Sync + Print + AllocGlobal>(rt: &R, batch: Batch) -> io::Result<()> {
     let gate = HoldingGate::new();
     let printed = print_run(rt, batch, &gate);
-    let (passes, report) = (gate.passes(), gate.report());
+    let (passes, seen) = (gate.passes(), gate.seen());
     drop(gate);
     printed?;
-    println!(rt; "passes {passes}, {report}")
+    let text = seen.text();
+    println!(rt; "passes {passes}, {text}")
+}
+
+/// Prints the places of the passes that a gate has noted.
+fn print_places(rt: &(impl Print + AllocGlobal), gate: &NotingGate) -> io::Result<()> {
+    print!(rt; "places")?;
+    for number in 0..u64::from(MOST_NOTES) {
+        if let Some(pass) = gate.passed(number) {
+            let place = pass.place;
+            print!(rt; " {place}")?;
+        }
+    }
+    println!(rt)
+}
+
+/// Runs a batch with a gate that notes each pass, and prints its answers and the places of the passes.
+fn print_noted<R: Threads + Sync + Print + AllocGlobal>(rt: &R, batch: Batch) -> io::Result<()> {
+    let gate = match NotingGate::new(rt.alloc(), MOST_NOTES) {
+        Ok(gate) => gate,
+        Err(fault) => {
+            drop(batch);
+            return Err(fault.into());
+        }
+    };
+    let printed = print_run(rt, batch, &gate).and_then(|()| print_places(rt, &gate));
+    drop(gate);
+    printed
 }
 
 /// Runs the batch of these lines, and prints what comes of it.
@@ -55,6 +84,7 @@ fn print_batch<R: Threads + Sync + Print + AllocGlobal>(rt: &R, lines: &str) -> 
     match gate {
         GateKind::Open => print_run(rt, batch, &OpenGate),
         GateKind::Held => print_held(rt, batch),
+        GateKind::Noted => print_noted(rt, batch),
     }
 }
 

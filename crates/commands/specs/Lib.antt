@@ -1,0 +1,17 @@
+pub mod CheckPlans
+pub mod CommandLine
+pub mod Commands
+pub mod Delivery
+pub mod Endings
+pub mod Handing
+pub mod ModuleChecks
+pub mod Pieces
+pub mod Plans
+pub mod Promises
+pub mod Readying
+pub mod Recordings
+pub mod ReplayPlans
+pub mod Replays
+pub mod SoakPlans
+pub mod Statuses
+pub mod Texts

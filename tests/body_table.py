@@ -110,6 +110,14 @@ BODIES = [
             locals="I64, I64",
         ),
     ),
+    (
+        "01027e027f0e0101000b0b",
+        body(
+            "Block { result: Some(I32), end: 2 }, BrTable { from: 0, count: 1 }, End, End",
+            locals="I64, I64",
+            targets="1, 0",
+        ),
+    ),
     ("000b", body("End")),
     ("000e00020b", alone("BrTable { from: 0, count: 0 }", "2")),
     ("000e020100030e0080010b", body("BrTable { from: 0, count: 2 }, BrTable { from: 3, count: 0 }, End", targets="1, 0, 3, 128")),
@@ -127,6 +135,8 @@ REFUSALS = [
     ("000e0100", 1, 4),
     ("001100", 1, 3),
     ("002080", 1, 3),
+    # A float operator behind the count of locals.
+    ("00920b", 5, 1),
     ("002802", 1, 3),
     ("003f", 1, 2),
     ("004180", 1, 3),

@@ -4,7 +4,7 @@
     check.py             builds the program where it is not built, by the script `sledge` at the top
 
 Each expected text is written out here from the formats of docs/FORMATS.md. What a configuration is refused for, key
-by key, `configurations.py` compares.
+by key, `tests/config_table.py` compares.
 """
 
 import copy

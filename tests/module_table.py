@@ -359,9 +359,41 @@ def long_body(count):
     return f"body: {count} operators; "
 
 
+# Every part once, with custom sections between and behind them.
+EACH_PART = (
+    "01 05 01 60 01 7F 00"
+    "02 07 01 01 6D 01 66 00 00"
+    "03 02 01 00"
+    "04 04 01 70 00 02"
+    "05 04 01 01 01 03"
+    "06 06 01 7E 01 42 7F 0B"
+    "07 0A 01 06 5F 73 74 61 72 74 00 01"
+    "08 01 01"
+    "09 07 01 00 41 00 0B 01 01"
+    "00 03 01 6E FF"
+    "0A 06 01 04 00 20 00 0B"
+    "0B 08 01 00 41 08 0B 02 68 69"
+    "00 04 03 C3 A9 61"
+    "00 06 01 7A 00 0B 0C 0D"
+)
+
 # Sections, and the parts that they make.
 PARTS = [
     ("", ""),
+    (
+        EACH_PART,
+        part("types", function_type(["I32"], None))
+        + part("imports", imported("m", "f", "Function(0)"))
+        + part("functions", 0)
+        + part("tables", limits(2, None))
+        + part("memories", limits(1, 3))
+        + part("globals", global_of("I64", "true", constant("I64", 2**64 - 1)))
+        + part("exports", export("_start", 0, 1))
+        + "start: 1; "
+        + part("elements", element(0, constant("I32", 0), 1))
+        + body("", "LocalGet(0), End", "")
+        + part("segments", segment(0, constant("I32", 8), 104, 105)),
+    ),
     (
         "01 12 04 60 00 00 60 03 7F 7E 7F 01 7E 60 00 01 7F 60 00 00",
         part(

@@ -9,3 +9,4 @@ pub mod laws;
 mod meters;
 
 pub use meters::{Admission, Meter};
+

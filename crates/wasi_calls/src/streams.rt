@@ -19,13 +19,23 @@ pub const MOST_IOVECS: u32 = 1_024;
 /// The body of a request, how many of its bytes have been read, and what has been written for the reply: the standard input and the standard output of a running function.
 ///
 /// All the room that the reply can need is taken when they are made, so that no call of the host takes memory. They cannot be cloned.
-#[derive(Drop)]
 pub struct Streams {
     body: Vec<u8>,
     position: u32,
     reply: Vec<u8>,
     // The iovecs of a call that may overwrite their array. No call reads what an earlier one left there.
     iovecs: Vec<Iovec>,
+}
+
+impl Drop for Streams {
+    fn drop(self) {
+        let Streams {
+            body: _,
+            position: _,
+            reply: _,
+            iovecs: _,
+        } = self;
+    }
 }
 
 impl Model for Streams {
@@ -40,9 +50,14 @@ impl Model for Streams {
 }
 
 /// The bytes of a reply, at most 65,536. They cannot be cloned.
-#[derive(Drop)]
 pub struct Reply {
     bytes: Vec<u8>,
+}
+
+impl Drop for Reply {
+    fn drop(self) {
+        let Reply { bytes: _ } = self;
+    }
 }
 
 impl Model for Reply {
@@ -92,7 +107,13 @@ impl Streams {
     pub fn into_reply(self) -> Reply
         ensures { result ≡ self.reply }
     {
-        Reply { bytes: self.reply }
+        let Streams {
+            body: _,
+            position: _,
+            reply: bytes,
+            iovecs: _,
+        } = self;
+        Reply { bytes }
     }
 
     /// How many bytes of the body have not been read.

@@ -1,7 +1,7 @@
 //! Names by a table, and the places of their refusals. The program `body_table` reads the spellings of numbers.
 
-use crate::{Cursor, Fault, Refusal};
 use std::process::Abort;
+use wasm_ops::{Cursor, Fault, Refusal};
 
 // A window over all of a row's bytes.
 fn whole<'a>(rt: &impl Abort, bytes: &'a [u8]) -> Cursor<'a> {
@@ -18,13 +18,19 @@ fn expect_place(rt: &impl Abort, cursor: &Cursor<'_>, found: bool) {
     }
 }
 
-fn refused<T>(why: Refusal, place: u32) -> Result<T, Fault> {
-    Err(why.at(place))
+// The number and the place of a refusal.
+fn refused<T>(why: Refusal, place: u32) -> Result<T, (u8, u32)> {
+    numbered(Err(why.at(place)))
+}
+
+// An answer, with the number and the place of a refusal.
+fn numbered<T>(answer: Result<T, Fault>) -> Result<T, (u8, u32)> {
+    answer.map_err(|fault| (fault.number, fault.place))
 }
 
 #[test]
 fn names(rt: HostRuntime) {
-    let rows: [(&[u8], Result<(u32, u32), Fault>); 11] = [
+    let rows: [(&[u8], Result<(u32, u32), (u8, u32)>); 11] = [
         (&[0], Ok((1, 0))),
         (&[6, b'_', b's', b't', b'a', b'r', b't'], Ok((1, 6))),
         (&[0x82, 0x00, 0xC3, 0xA9], Ok((2, 2))),
@@ -43,7 +49,7 @@ fn names(rt: HostRuntime) {
     ];
     for (bytes, want) in rows {
         let mut cursor = whole(&rt, bytes);
-        assert_eq!(rt; cursor.name(), want, "{bytes:?}");
+        assert_eq!(rt; numbered(cursor.name()), want, "{bytes:?}");
         expect_place(&rt, &cursor, want.is_ok());
     }
 }
@@ -53,15 +59,15 @@ fn names(rt: HostRuntime) {
 fn windows(rt: HostRuntime) {
     let bytes = [0x11, 0x22, 0x05, 0x80, 0x01, 0xAA, 0x80, 0x00];
     let mut cursor = Cursor::new(&bytes, 2, 7);
-    assert_eq!(rt; cursor.byte(), Ok(0x05));
-    assert_eq!(rt; cursor.u32_leb(), Ok(128));
+    assert_eq!(rt; numbered(cursor.byte()), Ok(0x05));
+    assert_eq!(rt; numbered(cursor.u32_leb()), Ok(128));
     assert_eq!(rt; cursor.at(), 5);
-    assert_eq!(rt; cursor.take(3), refused(Refusal::CutShort, 7));
-    assert_eq!(rt; cursor.take(1), Ok([0xAA].as_slice()));
-    assert_eq!(rt; cursor.s64_leb(), refused(Refusal::CutShort, 7));
-    assert_eq!(rt; cursor.byte(), Ok(0x80));
+    assert_eq!(rt; numbered(cursor.take(3)), refused(Refusal::CutShort, 7));
+    assert_eq!(rt; numbered(cursor.take(1)), Ok([0xAA].as_slice()));
+    assert_eq!(rt; numbered(cursor.s64_leb()), refused(Refusal::CutShort, 7));
+    assert_eq!(rt; numbered(cursor.byte()), Ok(0x80));
     assert!(rt; cursor.is_at_end());
-    assert_eq!(rt; cursor.byte(), refused(Refusal::CutShort, 7));
-    assert_eq!(rt; cursor.name(), refused(Refusal::CutShort, 7));
+    assert_eq!(rt; numbered(cursor.byte()), refused(Refusal::CutShort, 7));
+    assert_eq!(rt; numbered(cursor.name()), refused(Refusal::CutShort, 7));
     assert_eq!(rt; cursor.at(), 7);
 }

@@ -6,10 +6,10 @@ ghost use Rattle.std.specs.Prelude.{◌≡◌, ◌<◌, ◌≤◌, length, IfOk,
 ghost use Rattle.wasm_meaning.specs.Bytes.{size_of};
 ghost use Rattle.wasm_store.specs.View.{empty};
 
-use crate::{Frame, Label, Strip, Vessel};
 use std::alloc::{AllocError, Global};
 use std::process::Abort;
 use std::test::Fail;
+use wasm_store::{Frame, Label, Strip, Vessel};
 
 const LAST: u64 = u64::MAX;
 
@@ -209,15 +209,6 @@ const LABEL: Label = Label {
     result: true,
 };
 
-// What the call that is begun goes back to.
-const CALLER: Frame = Frame {
-    function: 9,
-    place: 30,
-    base: 1,
-    opened: 0,
-    below: 0,
-};
-
 // The body that runs and the place in it, the cells that are counted, and how many calls are live.
 fn running(vessel: &Vessel) -> (u32, u32, u32, u32) {
     (
@@ -248,7 +239,8 @@ fn open_block(rt: &impl Abort, vessel: &mut Vessel) {
     assert!(rt; vessel.open_blocks() == 0);
     vessel.go_to(5);
     vessel.open_block(LABEL);
-    assert_eq!(rt; vessel.label(0), LABEL);
+    let label = vessel.label(0);
+    assert_eq!(rt; (label.target, label.height, label.result), (6, 4, true));
 }
 
 fn lay_result(rt: &impl Abort, vessel: &mut Vessel) {
@@ -268,7 +260,9 @@ fn leave(rt: &impl Abort, vessel: &mut Vessel) -> Frame {
 
 fn end_call(rt: &impl Abort, vessel: &mut Vessel) {
     let frame = leave(rt, vessel);
-    assert_eq!(rt; frame, CALLER);
+    // What the call goes back to.
+    assert_eq!(rt; (frame.function, frame.place), (9, 30));
+    assert_eq!(rt; (frame.base, frame.opened, frame.below), (1, 0, 0));
     assert_eq!(rt; running(vessel), (9, 30, 0, 0));
     assert_eq!(rt; (vessel.height(), vessel.open_blocks()), (2, 0));
 }

@@ -15,6 +15,8 @@ from lib.replays import MODULES, Connection, Route, Tenant, configuration, due, 
 from lib.whole_modules import ECHO, ENDLESS, NOTHING
 
 PIECE, MOST_SHOWN, PERIOD = 65536, 400, 251
+# Four routes with a deadline each, and a request for each at once.
+ALONE, AT_ONCE = (9, 5, 5, 1), [(0, number) for number in range(4)]
 TAKEN_OVER = "worker 1 took over what worker 0 began, while worker 0 was held"
 
 
@@ -168,15 +170,15 @@ def held():
     return block
 
 
-def noted(policy, places):
-    """One worker: the places of the requests in the order of their turns, by the deadlines 9, 5, 5 and 1."""
-    routes = [Route("/%d" % number, "loop", 300, 1, 1) for number in range(4)]
-    tenants = [Tenant(10**6, 1000, routes)]
-    connection = Connection(0, [request(b"GET", b"/%d" % number) for number in range(4)])
-    records = [(0, 0, 0), (0, 0, connection.data), (0, 0, None)]
+def noted(policy, deadlines, asked, places):
+    """One worker: the places of requests in the order of their turns. Each is asked for at a moment, and due so long behind it as its route says."""
+    tenants = [Tenant(10**6, 1000, [Route("/%d" % number, "loop", 300, 1, 0) for number in range(len(deadlines))])]
+    items = [(moment, request(b"GET", b"/%d" % route)) for moment, route in asked]
+    connection = Connection(0, [item for _, item in items])
+    records = [(0, 0, 0), *((moment, 0, item.data) for moment, item in items), (items[-1][0], 0, None)]
     status, text, note = due(tenants, 100, [connection], records)
     config = configuration(tenants, 100, workers=1, policy=policy, berths=3)
-    for route, deadline in zip(config["tenants"][0]["routes"], (9, 5, 5, 1)):
+    for route, deadline in zip(config["tenants"][0]["routes"], deadlines):
         route["deadline"] = deadline
     block = Block({"c": spelling(config), "loop": ENDLESS, "r": spelt(records)})
     block.add("run noted - - - replay c r", left(status, (0, 0, 0), text, note), "places " + places)
@@ -189,8 +191,10 @@ def made():
         small(),
         long_texts(),
         held(),
-        noted("rr", "0 1 2 0 1 2 0 1 2 0 3 1 2 3 3 3"),
-        noted("edf", "0 1 2 1 1 1 3 3 3 3 2 2 2 0 0 0"),
+        noted("rr", ALONE, AT_ONCE, "0 1 2 0 1 2 0 1 2 0 3 1 2 3 3 3"),
+        noted("edf", ALONE, AT_ONCE, "0 1 2 1 1 1 3 3 3 3 2 2 2 0 0 0"),
+        # Due at 10, 10, 6 and 13.
+        noted("edf", (10, 1), [(0, 0), (0, 0), (5, 1), (12, 1)], "0 1 2 2 2 2 3 0 0 0 1 1 1 3 3 3"),
     ]
     asked = [line for block in blocks for line in block.text()]
     return {"stdin": tables.text(asked), "stdout": tables.text(line for block in blocks for line in block.printed)}

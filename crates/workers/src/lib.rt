@@ -13,3 +13,6 @@ mod workshops;
 pub use batches::run_batch;
 pub use outcomes::outcome;
 pub use worker_desks::{Desk, Duty, Gate, OpenGate, Settings, Shared, SharedDesk, Task, work};
+
+#[cfg(test)]
+mod tests;

@@ -4,7 +4,7 @@ use Rattle.outside.specs.Library.{Files}
 use Rattle.wasm_meaning.specs.Programs.{Program}
 use Rattle.wasm_meaning.specs.Requests.{Request, units, verdict}
 use Rattle.wasm_reader.specs.Modules.{most_bytes}
-use Rattle.recorded_runner.specs.Replies.{reported_of}
+use Rattle.workers.specs.Outcomes.{reported_of}
 use Rattle.commands.specs.ModuleChecks.{check_module, given_pages}
 use Rattle.commands.specs.CheckPlans.{check_plan}
 use Rattle.commands.specs.CommandLine.{Asked, AsksHelp, AsksVersion, AsksInvoke, AsksCheck, AsksReplay, AsksSoak, InvokeWords, command_of}

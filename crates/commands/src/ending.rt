@@ -4,16 +4,17 @@ ghost use Rattle.std.specs.Prelude.{◌≡◌, IfOk, string_bytes};
 ghost use Rattle.commands.specs.Endings.{Done, answered, config_fault, due, module_fault, not_read, recording_fault, shown, usage};
 ghost use Rattle.commands.specs.CheckPlans.{counted, counts_line};
 ghost use Rattle.commands.specs.ReplayPlans.{summary_counts, summary_line};
-ghost use Rattle.recorded_runner.specs.Replies.{reported_verdict};
+ghost use Rattle.workers.specs.Outcomes.{reported_verdict};
 
 use crate::status::Status;
 use crate::texts::OCTET_STREAM;
 use http_front::reply_text;
-use recorded_runner::{Played, Summary, outcome};
+use recorded_runner::{Played, Summary};
 use sandbox_states::Answer;
 use serve_config::Config;
 use std::alloc::{AllocError, Global};
 use std::marker::Model;
+use workers::outcome;
 
 /// What a command has to say, before any of it is written.
 #[derive(Drop)]

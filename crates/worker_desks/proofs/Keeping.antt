@@ -105,6 +105,24 @@ holds-duty places old new s words c =
       owned = c.owned;
     })
 
+-- how many berths there is memory for is no part of it
+pub shared-roomy : (d : SharedView) (n : ℕ) → IsShared d → IsShared (record d { stock_room = n })
+shared-roomy d n i = record {
+  board_own = i.board_own;
+  fixed = i.fixed;
+  pool_own = i.pool_own;
+  queue_own = i.queue_own;
+  drawn = i.drawn;
+  roomy = i.roomy;
+  stocked = i.stocked;
+  entries = i.entries;
+  room = i.room;
+  out = i.out;
+  waiting = i.waiting;
+  kept = i.kept;
+  counted = i.counted;
+}
+
 -- a desk with a duty out, and one that found none
 abbrev pub handed : (d : SharedView) (board_pass : Pass) (pool_pass : pools.PassView) (queue_pass : Drawing) (local : Queue) (stock : List View) (duty : Duty) → SharedView
 handed d board_pass pool_pass queue_pass local stock duty =

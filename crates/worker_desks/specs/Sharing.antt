@@ -22,7 +22,7 @@ use Rattle.worker_desks.specs.declared.sharing.Shared.{Shared}
 use Rattle.worker_desks.specs.declared.tasks.Task.{Task}
 use Rattle.worker_desks.specs.declared.tasks.Task.TheVariants.{Suspended}
 
--- the board, the pool and the queue with the desk's pass for each; its own queue and its berths in stock; the duty that is out, how many it has given, and whether its last `next` gave none
+-- the board, the pool and the queue with the desk's pass for each; its own queue, its berths in stock, and how many of them there is memory for; the duty that is out, how many it has given, and whether its last `next` gave none
 pub record SharedView : Type 0 where
   pub board : BoardView Task
   pub board_pass : boards.PassView Task
@@ -32,6 +32,7 @@ pub record SharedView : Type 0 where
   pub queue_pass : Drawing
   pub local : Queue
   pub stock : List View
+  pub stock_room : ℕ
   pub out : Option Duty
   pub given : ℕ
   pub ended : Bool
@@ -39,9 +40,9 @@ pub record SharedView : Type 0 where
 abbrev pub empty_queue : Policy → (room : ℕ) → Queue
 empty_queue policy room = record { policy = policy; room = room; entries = [] }
 
--- a new desk has nothing of its own, and room for one entry more than there are places
-abbrev pub new_desk : Policy → BoardView Task → boards.PassView Task → PoolView → pools.PassView → CommonView → Drawing → SharedView
-new_desk policy b board_pass p pool_pass queue queue_pass = record {
+-- a new desk has nothing of its own, room for one entry more than there are places, and memory for so many berths
+abbrev pub new_desk : Policy → BoardView Task → boards.PassView Task → PoolView → pools.PassView → CommonView → Drawing → (stock_room : ℕ) → SharedView
+new_desk policy b board_pass p pool_pass queue queue_pass stock_room = record {
   board = b;
   board_pass = board_pass;
   pool = p;
@@ -50,6 +51,7 @@ new_desk policy b board_pass p pool_pass queue queue_pass = record {
   queue_pass = queue_pass;
   local = empty_queue policy (places_of b + 1);
   stock = [];
+  stock_room = stock_room;
   out = None;
   given = 0;
   ended = false;
@@ -65,7 +67,7 @@ state_of d = record {
   quantum = d.board.terms.quantum;
 }
 
--- what it serves
+-- what it serves, and how
 abbrev pub served_by : SharedView → Shared
 served_by d = record {
   board = d.board;
@@ -74,6 +76,8 @@ served_by d = record {
   board_parts = d.board_pass.parts;
   pool_parts = d.pool_pass.parts;
   queue_parts = d.queue_pass.parts;
+  policy = d.local.policy;
+  room = d.local.room;
 }
 
 -- What always holds.

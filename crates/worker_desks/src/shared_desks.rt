@@ -30,7 +30,9 @@ use std::snapshot::Snapshot;
 
 /// A worker's desk over shared objects, for each of which it has a pass.
 ///
-/// Contracts see the objects and the passes, the desk's own queue, the berths that it has in stock, the duty that is out, how many it has given, and whether its last `next` gave none.
+/// Contracts see the objects and the passes, the desk's own queue with its policy and its room, the berths that it has in stock and how many it has memory for, the duty that is out, how many it has given, and whether its last `next` gave none.
+///
+/// All its memory is taken by `new`. No call changes the policy, the room of the queue, or the memory of the stock.
 #[derive(Drop)]
 pub struct SharedDesk<'a> {
     board: &'a Board<Task>,
@@ -56,9 +58,9 @@ impl<'a> Model for SharedDesk<'a> {
 
     ghost Value = { SharedView };
 
-    ghost view = { λ d. record { board = d.board.now; board_pass = d.board_pass; pool = d.pool.now; pool_pass = d.pool_pass; queue = d.queue.now; queue_pass = d.queue_pass; local = d.local; stock = d.stock.items; out = duty_out d.out; given = d.given; ended = d.ended } };
+    ghost view = { λ d. record { board = d.board.now; board_pass = d.board_pass; pool = d.pool.now; pool_pass = d.pool_pass; queue = d.queue.now; queue_pass = d.queue_pass; local = d.local; stock = d.stock.items; stock_room = vec_capacity d.stock; out = duty_out d.out; given = d.given; ended = d.ended } };
 
-    ghost invariant = { λ d. IsShared (record { board = d.board.now; board_pass = d.board_pass; pool = d.pool.now; pool_pass = d.pool_pass; queue = d.queue.now; queue_pass = d.queue_pass; local = d.local; stock = d.stock.items; out = duty_out d.out; given = d.given; ended = d.ended }) × (places_of d.board.now + 1 ≤ vec_capacity d.stock) };
+    ghost invariant = { λ d. IsShared (record { board = d.board.now; board_pass = d.board_pass; pool = d.pool.now; pool_pass = d.pool_pass; queue = d.queue.now; queue_pass = d.queue_pass; local = d.local; stock = d.stock.items; stock_room = vec_capacity d.stock; out = duty_out d.out; given = d.given; ended = d.ended }) × (places_of d.board.now + 1 ≤ vec_capacity d.stock) };
 }
 
 impl<'a> SharedDesk<'a> {
@@ -80,7 +82,9 @@ impl<'a> SharedDesk<'a> {
         requires queue { queue_pass.id ≡ queue.now.id }
         requires drawn { All (λ place. place < places_of board.now) queue.now.places }
         requires roomy { All (FitsIn pool.now.pages) board.now.terms.jobs }
-        ensures desk { IfOk result (λ desk. desk ≡ new_desk policy board.now board_pass pool.now pool_pass queue.now queue_pass) }
+        ensures desk { IfOk result (λ desk. desk
+            ≡ new_desk policy board.now board_pass pool.now pool_pass queue.now queue_pass desk.stock_room) }
+        ensures stock { IfOk result (λ desk. places_of board.now + 1 ≤ desk.stock_room) }
         ensures bound { IfOk result (λ desk. (state_of desk).bound ≤ places_of board.now * most_turns) }
         ensures refused { IfErr result (λ back. (back.0 ≡ board_pass) × (back.1 ≡ pool_pass) × (back.2 ≡ queue_pass)) }
     {
@@ -148,6 +152,7 @@ impl<'a> Desk for SharedDesk<'a> {
         ensures some { IfSome result (λ duty. Gives (state_of self.old) (state_of self.new) duty) }
         ensures none { IfNone result (Closes (state_of self.old) (state_of self.new)) }
         ensures serves { served_by self.new ≡ served_by self.old }
+        ensures memory { self.new.stock_room ≡ self.old.stock_room }
     {
         let begun = begin(
             self.board,
@@ -185,6 +190,7 @@ impl<'a> Desk for SharedDesk<'a> {
         ensures put { IsPutBack self.old self.new sandbox }
         ensures back { Regains (state_of self.old) (state_of self.new) }
         ensures serves { served_by self.new ≡ served_by self.old }
+        ensures memory { self.new.stock_room ≡ self.old.stock_room }
     {
         turns_keep();
         let entry = Entry {
@@ -203,6 +209,7 @@ impl<'a> Desk for SharedDesk<'a> {
         ensures taken { IsTakenIn self.old self.new answer berth }
         ensures back { Regains (state_of self.old) (state_of self.new) }
         ensures serves { served_by self.new ≡ served_by self.old }
+        ensures memory { self.new.stock_room ≡ self.old.stock_room }
     {
         turns_keep();
         let place = answer.place();

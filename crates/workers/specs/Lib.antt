@@ -1,3 +1,4 @@
 pub mod Batches
+pub mod Outcomes
 pub mod Tasks
 pub mod Workshops

@@ -1,9 +1,10 @@
 -- What the workers of a batch share, the caller's passes for it, and the desks over it.
-use Rattle.std.specs.Prelude.{◌≡◌, ℕ, ◌<◌, ◌≤◌, List, length, None, true}
+use Rattle.std.specs.Prelude.{◌≡◌, ℕ, ◌+◌, ◌<◌, ◌≤◌, List, length, None, true}
 use Rattle.std.specs.List.{All}
 use Rattle.job_board.specs.Boarding as boards
 use Rattle.job_board.specs.Boarding.{places_of, terms, first_pass}
 use Rattle.memory_pool.specs.Passing as pools
+use Rattle.memory_pool.specs.Passing.{slots_of}
 use Rattle.worker_desks.specs.Desks.{IsOpen}
 use Rattle.worker_desks.specs.Sharing.{SharedView, served_by, state_of}
 use Rattle.worker_desks.specs.Tasks.{FitsIn}
@@ -20,20 +21,22 @@ pub record AreOf (w : Workshop) (passes : Passes) : Type 0 where
   pub pool : pools.IsPassOf w.pool passes.pool
   pub queue : passes.queue.id ≡ w.queue.id
 
--- a workshop for these tasks, with all its passes
+-- a workshop for these tasks, with as many berths as the settings say and their policy, and with all its passes
 pub record IsLaidOut (s : Settings) (tasks : List Task) (w : Workshop) (passes : Passes) : Type 0 where
   pub terms_are : w.board.terms ≡ terms true s.quantum tasks
   pub places : places_of w.board ≡ length tasks
+  pub berths : slots_of w.pool ≡ s.berths
   pub pages : w.pool.pages ≡ s.pages
+  pub policy : w.policy ≡ s.policy
   pub drawn : All (λ place. place < places_of w.board) w.queue.places
   pub own : AreOf w passes
   pub board_parts : passes.board.parts ≡ 65536
   pub pool_parts : passes.pool.parts ≡ 65536
   pub queue_parts : passes.queue.parts ≡ 65536
 
--- the workshop by one part of each of its objects
+-- the workshop by one part of each of its objects and by its policy, with room for one entry more than there are places
 abbrev pub one_part_of : Workshop → Shared
-one_part_of w = record { board = w.board; pool = w.pool; queue = w.queue; board_parts = 1; pool_parts = 1; queue_parts = 1 }
+one_part_of w = record { board = w.board; pool = w.pool; queue = w.queue; board_parts = 1; pool_parts = 1; queue_parts = 1; policy = w.policy; room = places_of w.board + 1 }
 
 -- a desk over the workshop, with nothing out
 pub record IsDeskOf (w : Workshop) (d : SharedView) : Type 0 where

@@ -1,19 +1,19 @@
 //! The workers of a batch.
 ghost use Rattle.std.specs.Prelude.{◌≡◌, ℕ, ◌+◌, ◌<◌, ◌≤◌, ◌^◌, length, slice_index_or, IfOk, OnOk};
 ghost use Rattle.std.specs.List.{All};
+ghost use Rattle.memory_pool.specs.Passing.{slots_of};
 ghost use Rattle.worker_desks.specs.Desks.{IsOpen};
 ghost use Rattle.worker_desks.specs.Sharing.{SharedView, state_of};
 ghost use Rattle.workers.specs.Workshops.{AreOf, IsDeskOf, IsReady, IsWorked, TakesDesks};
 
 use crate::workshops::{Passes, Workshop};
 use outside::Gate;
-use run_queues::Policy;
 use std::alloc::{AllocError, Global};
 use std::thread;
 use std::thread::Threads;
 use worker_desks::{Settings, SharedDesk, work};
 
-/// A desk for each worker, by passes that are split from the caller's.
+/// A desk for each worker, by passes that are split from the caller's. The workshop is one for these settings, and each desk has its policy.
 pub(crate) fn hire<'a>(
     alloc: Global,
     workshop: &'a Workshop,
@@ -24,6 +24,8 @@ pub(crate) fn hire<'a>(
     requires own { AreOf workshop.now passes.old }
     requires parts { (passes.old.board.parts ≡ 65536) × ((passes.old.pool.parts ≡ 65536) × (passes.old.queue.parts ≡ 65536)) }
     requires workers { settings.now.workers ≤ 64 }
+    requires berths { slots_of workshop.now.pool ≡ settings.now.berths }
+    requires policy { workshop.now.policy ≡ settings.now.policy }
     ensures own { OnOk result (AreOf workshop.now passes.new) }
     ensures parts { IfOk result (λ desks. passes.new.board.parts + length desks.items ≡ 65536) }
     ensures desks { IfOk result (λ desks. All (IsReady workshop.now settings.now.quantum) desks.items) }
@@ -31,7 +33,7 @@ pub(crate) fn hire<'a>(
 {
     let mut desks = Vec::with_capacity(alloc, settings.workers as usize)?;
     for _i in 0..settings.workers {
-        desks.push_reserved(hire_one(alloc, workshop, passes, settings.policy)?);
+        desks.push_reserved(hire_one(alloc, workshop, passes)?);
     }
     Ok(desks)
 }
@@ -41,7 +43,6 @@ fn hire_one<'a>(
     alloc: Global,
     workshop: &'a Workshop,
     passes: &mut Passes,
-    policy: Policy,
 ) -> Result<SharedDesk<'a>, AllocError>
     requires takes { TakesDesks workshop.now workshop.now.board.terms.quantum }
     requires own { AreOf workshop.now passes.old }
@@ -50,12 +51,17 @@ fn hire_one<'a>(
     ensures parts { OnOk result ((passes.new.board.parts + 1 ≡ passes.old.board.parts) × ((passes.new.pool.parts + 1 ≡ passes.old.pool.parts) × (passes.new.queue.parts + 1 ≡ passes.old.queue.parts))) }
     ensures desk { IfOk result (λ desk. IsReady workshop.now workshop.now.board.terms.quantum desk) }
 {
-    let Workshop { board, pool, queue } = workshop;
+    let Workshop {
+        board,
+        pool,
+        queue,
+        policy,
+    } = workshop;
     let board_pass = board.split(&mut passes.board);
     let pool_pass = pool.split(&mut passes.pool);
     let queue_pass = queue.split(&mut passes.queue);
     match SharedDesk::new(
-        alloc, policy, board, board_pass, pool, pool_pass, queue, queue_pass,
+        alloc, *policy, board, board_pass, pool, pool_pass, queue, queue_pass,
     ) {
         Ok(desk) => Ok(desk),
         Err((_, _, _, fault)) => Err(fault),

@@ -9,16 +9,17 @@ ghost use Rattle.workers.specs.Workshops.{AreOf, IsLaidOut};
 
 use job_board::{Board, BoardPass};
 use memory_pool::{Pool, PoolPass};
-use run_queues::{Common, CommonPass};
+use run_queues::{Common, CommonPass, Policy};
 use std::alloc::{AllocError, Global};
 use worker_desks::{Settings, Task};
 
-/// The board of a batch, the pool of its berths, and the queue of what has not begun.
+/// The board of a batch, the pool of its berths, the queue of what has not begun, and the policy by which each desk takes up what it has stopped.
 #[derive(Drop)]
 pub(crate) struct Workshop {
     pub(crate) board: Board<Task>,
     pub(crate) pool: Pool,
     pub(crate) queue: Common,
+    pub(crate) policy: Policy,
 }
 
 /// The caller's passes for a workshop, from which those of the desks are split.
@@ -30,7 +31,7 @@ pub(crate) struct Passes {
 }
 
 impl Workshop {
-    /// A workshop for these tasks, none of which has begun, and all its passes.
+    /// A workshop for these tasks, none of which has begun, with as many berths and the policy as the settings say, and all its passes.
     pub(crate) fn new(
         alloc: Global,
         tasks: Vec<Task>,
@@ -46,7 +47,12 @@ impl Workshop {
         let (pool, pool_pass) = Pool::new(alloc, settings.berths, settings.pages)?;
         let (queue, queue_pass) = Common::new(alloc, places)?;
         let (board, board_pass) = Board::new(alloc, tasks, settings.quantum)?;
-        let workshop = Workshop { board, pool, queue };
+        let workshop = Workshop {
+            board,
+            pool,
+            queue,
+            policy: settings.policy,
+        };
         let passes = Passes {
             board: board_pass,
             pool: pool_pass,

@@ -1,4 +1,4 @@
-use Rattle.std.proofs.Common.{◌≡◌, ℕ, ◌<◌, List, length, sym, ap, subst, arith, rules}
+use Rattle.std.proofs.Common.{◌≡◌, ℕ, ◌<◌, List, length, refl, sym, ap, subst, arith, rules}
 use Rattle.std.specs.List.{All}
 use Rattle.job_board.specs.Boarding as boards
 use Rattle.memory_pool.specs.Passing as pools
@@ -15,7 +15,9 @@ returns c =
     record {
       terms_are = c.in_ok-board.ensures.board.0;
       places = c.in_ok-board.ensures.board.1;
+      berths = c.in_ok-pool.ensures.pool.1;
       pages = c.in_ok-pool.ensures.pool.0;
+      policy = refl;
       drawn = subst (λ (places : List ℕ). All (λ place. place < boards.places_of c.in_ok-board.board) places) (sym c.in_ok-queue.ensures.places)
           (λ k d inside. let below = c.in_ok-places.ensures.below k d inside in omega (arith, below, count, c.in_ok-board.ensures.board.1, c.requires.few));
       own = record {

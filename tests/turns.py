@@ -17,7 +17,7 @@ import fresh_states
 import interpreter
 import module_validator
 import programs
-from host_calls import EXIT, WRITE, call, filled, laid
+from host_calls import EXIT, WRITE, call, filled, laid, through
 from host_calls import program as calling
 from module_writer import module
 from whole_modules import ECHO, ENDLESS, MOST_FRAMES, NOTHING, PAGE_FILLER, UNREACHABLE, ZERO_READER
@@ -39,11 +39,15 @@ BLOCKS = one("02 40 02 40 02 40 01 0B 0B 0B 02 40 0C 00 0B 41 00 04 40 01 05 01 
 DEEP = module(functions=["00"], bodies=["10 00"], exports=START)
 # A start function before `_start`, both with a nop: they share a turn.
 TWO_ENTRIES = module(functions=["00", "00"], bodies=["01", "01 01"], exports=START, start="01")
+# `_start` is the start function too, and so runs twice.
+ITSELF = one("01 01", start="00")
 # Ends itself with a code behind a reply of three bytes; `proc_exit` costs 1, as all operators before it but the write, which costs 2.
 EXITS = calling(laid(0, [(1024, 3)]) + call(WRITE, 1, 0, 1, 8) + b"\x1a" + call(EXIT, 7))
 ENDS_WELL = calling(filled(3) + call(EXIT, 0))
 # One operator that costs 338, more than most quanta: 300 buffers and 2,400 bytes.
 DEAR = calling(laid(0, [(0, 8)] * 300) + call(WRITE, 1, 0, 300, 65532) + b"\x1a\x01")
+# Writes 128 bytes through the table, which costs 4, behind 11 operators and before two.
+THROUGH = calling(laid(0, [(1024, 128)]) + through(0, 0, 1, 0, 1, 8) + b"\x1a\x01", tables=["70 00 01"], elements=["00 41 00 0B 01 01"])
 GROWS = one("41 01 40 00 1A 41 FC FF 07 41 05 36 02 00 41 FF 01 40 00 1A 3F 00 1A", memories=["00 01"])
 
 BODY = bytes(number * 7 % 256 for number in range(3000))
@@ -74,6 +78,11 @@ ROWS = [
     ("an exit behind a group's end", EXITS, b"", 100, 14, "exit 7 000000", 15, 2),
     ("an exit that is not paid", EXITS, b"", 14, 14, "spent", 14, 2),
     ("an exit with 0", ENDS_WELL, b"", 100, 100, "exit 0 000000", 15, 1),
+    ("_start twice", ITSELF, b"", 10, 3, "replied -", 4, 2),
+    ("_start twice, with too little", ITSELF, b"", 3, 2, "spent", 3, 2),
+    ("a call through the table at a group's end", THROUGH, b"", 100, 15, "replied " + "00" * 128, 17, 2),
+    ("a call through the table behind a group's end", THROUGH, b"", 100, 11, "replied " + "00" * 128, 17, 2),
+    ("a call through the table that is not paid", THROUGH, b"", 14, 11, "spent", 11, 2),
     # The last call is paid and fills its group, and then entering traps for nothing in the same turn.
     ("entering that traps", DEEP, b"", 10**6, 4096, "trap: call stack exhausted", 4096, 1),
     ("entering that traps", DEEP, b"", 10**6, 4095, "trap: call stack exhausted", 4096, 2),
@@ -103,6 +112,8 @@ PROGRAMS = [
     ("the echo", ECHO, BODY, [1000]),
     ("the echo of little", ECHO, b"hi", [70, 71, 72]),
     ("two entries", TWO_ENTRIES, b"", [2, 3, 100]),
+    ("_start twice", ITSELF, b"", [100]),
+    ("a call through the table", THROUGH, b"", [14, 15]),
     ("an exit", EXITS, b"", [13, 14, 15, 100]),
     ("an exit with 0", ENDS_WELL, b"", [100]),
     ("a dear call", DEAR, b"", [2141, 2142, 3000]),

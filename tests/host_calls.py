@@ -10,7 +10,7 @@ What must come of it is computed by the interpreter in Python.
 import random
 import sys
 
-from lib.host_programs import EXIT, READ, WRITE, call, const, expects, filled, laid, program, shown, told
+from lib.host_programs import EXIT, READ, WRITE, call, const, expects, filled, laid, program, shown, through, told
 from lib.interpreter import PAGE
 from lib.module_writer import body, number, signed, text
 from lib.running import Case, compare
@@ -62,6 +62,7 @@ def by_hand():
     yield Case("read over the iovecs and the count", program(over), bytes(range(1, 30)))
     yield Case("write of what overlaps", program(laid(0, [(0, 16), (4, 8), (0, 16)]) + told(call(WRITE, 1, 0, 3, 0)) + shown(0, 32)))
     yield Case("a zero read", program(laid(0, [(8, 0)]) + told(call(READ, 0, 0, 1, 2048)) + shown(2048, 4)), b"abc")
+    yield Case("a start function that is _start itself writes twice", program(filled(3), start=b"\x03"))
     for memories in ([], ["00 00"]):
         for function, descriptor in ((READ, 0), (WRITE, 1)):
             yield Case("no memory", program(expects(call(function, descriptor, 0, 0, 0), 21), memories=memories))
@@ -72,8 +73,7 @@ def by_hand():
         table = {"tables": ["70 00 01"], "elements": ["00 41 00 0B 01 02"]}
         yield Case("exit with %d through the table" % code, program(const(code) + const(0) + text("11 01 00 00"), **table))
     table = {"tables": ["70 00 01"], "elements": ["00 41 00 0B 01 01"]}
-    through = laid(0, [(1024, 70)]) + told(b"".join(map(const, (1, 0, 1, 8, 0))) + text("11 00 00"))
-    yield Case("write through the table", program(through, **table))
+    yield Case("write through the table", program(laid(0, [(1024, 70)]) + told(through(0, 0, 1, 0, 1, 8)), **table))
     yield Case("a call of another type through the table", program(const(0) + const(0) + text("11 01 00"), **table))
 
 
@@ -85,6 +85,14 @@ def budgets():
     for errno in (expects(call(WRITE, 7, 0, 1, 8), 8), call(EXIT, 3)):
         for budget in range(0, 12):
             yield Case("a call that costs 1", program(errno), b"", budget)
+    # The same calls through the table, which has the three functions: the price is the function's alone.
+    table = {"tables": ["70 00 03"], "elements": ["00 41 00 0B 03 00 01 02"]}
+    for function, data, parts in ((READ, bytes(128), (0, 0, 1, 2048)), (WRITE, b"", (1, 0, 1, 2048)), (WRITE, b"", (7, 0, 1, 2048))):
+        code = laid(0, [(4096, 128)]) + through(function, 0, *parts) + b"\x1a"
+        for budget in range(4, 20):
+            yield Case("call_indirect of function %d of the host" % function, program(code, **table), data, budget)
+    for budget in range(0, 6):
+        yield Case("call_indirect of proc_exit", program(through(EXIT, 1, 3), **table), b"", budget)
 
 
 def at_random(rng):

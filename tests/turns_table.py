@@ -12,7 +12,7 @@ import random
 import sys
 
 from lib import fresh_states, tables
-from lib.in_turns import BLOCKS, BY_ZERO, DEAR, DEEP, ENDS_WELL, EXITS, GROWS, NOPS, TWO_ENTRIES, answer, became
+from lib.in_turns import BLOCKS, BY_ZERO, DEAR, DEEP, ENDS_WELL, EXITS, GROWS, ITSELF, NOPS, THROUGH, TWO_ENTRIES, answer, became
 from lib.random_modules import grown_program
 from lib.whole_modules import ECHO, ENDLESS, MOST_FRAMES, NOTHING, PAGE_FILLER, UNREACHABLE, ZERO_READER
 
@@ -46,6 +46,11 @@ ROWS = [
     ("an exit behind a group's end", EXITS, b"", 100, 14, "exit 7 000000", 15, 2),
     ("an exit that is not paid", EXITS, b"", 14, 14, "spent", 14, 2),
     ("an exit with 0", ENDS_WELL, b"", 100, 100, "exit 0 000000", 15, 1),
+    ("_start twice", ITSELF, b"", 10, 3, "replied -", 4, 2),
+    ("_start twice, with too little", ITSELF, b"", 3, 2, "spent", 3, 2),
+    ("a call through the table at a group's end", THROUGH, b"", 100, 15, "replied " + "00" * 128, 17, 2),
+    ("a call through the table behind a group's end", THROUGH, b"", 100, 11, "replied " + "00" * 128, 17, 2),
+    ("a call through the table that is not paid", THROUGH, b"", 14, 11, "spent", 11, 2),
     # The last call is paid and fills its group, and then entering traps for nothing in the same turn.
     ("entering that traps", DEEP, b"", 10**6, 4096, "trap: call stack exhausted", 4096, 1),
     ("entering that traps", DEEP, b"", 10**6, 4095, "trap: call stack exhausted", 4096, 2),
@@ -75,6 +80,8 @@ PROGRAMS = [
     ("the echo", ECHO, BODY, [1000]),
     ("the echo of little", ECHO, b"hi", [70, 71, 72]),
     ("two entries", TWO_ENTRIES, b"", [2, 3, 100]),
+    ("_start twice", ITSELF, b"", [100]),
+    ("a call through the table", THROUGH, b"", [14, 15]),
     ("an exit", EXITS, b"", [13, 14, 15, 100]),
     ("an exit with 0", ENDS_WELL, b"", [100]),
     ("a dear call", DEAR, b"", [2141, 2142, 3000]),

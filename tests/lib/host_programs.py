@@ -21,6 +21,11 @@ def call(function, *arguments):
     return b"".join(map(const, arguments)) + b"\x10" + number(function)
 
 
+def through(place, of_type, *arguments):
+    """A call of the function at a place of the table."""
+    return b"".join(map(const, (*arguments, place))) + b"\x11" + number(of_type) + b"\x00"
+
+
 def store(at, value):
     return const(at) + const(value) + text("36 00 00")
 

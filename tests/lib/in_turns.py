@@ -1,7 +1,7 @@
 """What becomes of requests in turns, by the interpreter, and small programs whose turns tell something."""
 
 from lib import interpreter, module_validator
-from lib.host_programs import EXIT, WRITE, call, filled, laid
+from lib.host_programs import EXIT, WRITE, call, filled, laid, through
 from lib.host_programs import program as calling
 from lib.module_writer import module
 
@@ -20,11 +20,15 @@ BLOCKS = one("02 40 02 40 02 40 01 0B 0B 0B 02 40 0C 00 0B 41 00 04 40 01 05 01 
 DEEP = module(functions=["00"], bodies=["10 00"], exports=START)
 # A start function before `_start`, both with a nop: they share a turn.
 TWO_ENTRIES = module(functions=["00", "00"], bodies=["01", "01 01"], exports=START, start="01")
+# `_start` is the start function too, and so runs twice.
+ITSELF = one("01 01", start="00")
 # Ends itself with a code behind a reply of three bytes; `proc_exit` costs 1, as all operators before it but the write, which costs 2.
 EXITS = calling(laid(0, [(1024, 3)]) + call(WRITE, 1, 0, 1, 8) + b"\x1a" + call(EXIT, 7))
 ENDS_WELL = calling(filled(3) + call(EXIT, 0))
 # One operator that costs 338, more than most quanta: 300 buffers and 2,400 bytes.
 DEAR = calling(laid(0, [(0, 8)] * 300) + call(WRITE, 1, 0, 300, 65532) + b"\x1a\x01")
+# Writes 128 bytes through the table, which costs 4, behind 11 operators and before two.
+THROUGH = calling(laid(0, [(1024, 128)]) + through(0, 0, 1, 0, 1, 8) + b"\x1a\x01", tables=["70 00 01"], elements=["00 41 00 0B 01 01"])
 GROWS = one("41 01 40 00 1A 41 FC FF 07 41 05 36 02 00 41 FF 01 40 00 1A 3F 00 1A", memories=["00 01"])
 
 

@@ -117,7 +117,7 @@ impl Streams {
     }
 
     /// How many bytes of the body have not been read.
-    pub fn unread(&self) -> u32
+    pub(crate) fn unread(&self) -> u32
         ensures count { result ≡ length (drop self.now.position self.now.body) }
         ensures most { result ≤ 2 ^ 20 }
     {
@@ -125,7 +125,7 @@ impl Streams {
     }
 
     /// How many bytes of the reply have been written.
-    pub fn written(&self) -> u32
+    pub(crate) fn written(&self) -> u32
         ensures count { result ≡ length self.now.reply }
         ensures most { result ≤ 65536 }
     {
@@ -133,7 +133,7 @@ impl Streams {
     }
 
     /// Adds bytes to the reply.
-    pub fn append(&mut self, bytes: &[u8])
+    pub(crate) fn append(&mut self, bytes: &[u8])
         requires { length self.old.reply + length bytes.now ≤ 65536 }
         ensures { self.new ≡ record self.old { reply = self.old.reply ++ bytes.now } }
     {
@@ -144,7 +144,7 @@ impl Streams {
     }
 
     /// The next bytes of the body.
-    pub fn next_bytes(&self, count: u32) -> &[u8]
+    pub(crate) fn next_bytes(&self, count: u32) -> &[u8]
         requires { count ≤ length (drop self.now.position self.now.body) }
         ensures { result.now ≡ take count (drop self.now.position self.now.body) }
     {
@@ -154,7 +154,7 @@ impl Streams {
     }
 
     /// Passes over bytes of the body.
-    pub fn pass(&mut self, count: u32)
+    pub(crate) fn pass(&mut self, count: u32)
         requires { count ≤ length (drop self.old.position self.old.body) }
         ensures { self.new ≡ record self.old { position = self.old.position + count } }
     {
@@ -164,7 +164,7 @@ impl Streams {
     /// Lays the next bytes of the body in the buffers of a call, all of whose iovecs are read first.
     #[cold]
     #[inline(never)]
-    pub fn scatter_saved(&mut self, call: StreamCall, vessel: &mut Vessel, count: u32)
+    pub(crate) fn scatter_saved(&mut self, call: StreamCall, vessel: &mut Vessel, count: u32)
         requires few { call.count ≤ 1024 }
         requires reaches { reaches vessel.old.memory (transfer_for call) ≡ true }
         requires bytes { count ≤ length (drop self.old.position self.old.body) }

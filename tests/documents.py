@@ -124,8 +124,8 @@ def columns(path):
 
 def wrong_promises():
     path, named, crates = "docs/PROMISES.md", set(), set(listed()[1])
-    # A cell may name the call of a row too.
-    clause = r"\b(?:ensures|fn)\s+(\w+)"
+    # A law of a trait is a ghost item, and a cell may name the call of its row.
+    clause = r"\b(?:ensures|ghost|fn)\s+(\w+)"
     clauses = {name for source in SOURCES if source.endswith(".rt") for name in re.findall(clause, read(source))}
     for number, row in columns(path):
         edits = [name for title in ("Edit", "Must-fail edits") for name in re.findall(r"`([^`]+)`", row.get(title, ""))]
@@ -175,7 +175,7 @@ def wrong_crates():
                 break
     folders = [path.split("/")[1] for path in ALL if re.fullmatch(r"crates/\w+", path)]
     yield from ("crates.txt: %s is a folder or a line, and not both" % name for name in sorted(set(folders) ^ set(libraries)))
-    drawn = re.findall(r"\w+", read("docs/pictures/crates.svg"))
+    drawn = re.findall(r"\w+", re.sub(r"<[^>]*>", " ", read("docs/pictures/crates.svg")))
     yield from ("docs/pictures/crates.svg: it does not have %s" % name for name in libraries if name not in drawn)
     above = []
     for name, below in libraries.items():

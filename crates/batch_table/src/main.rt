@@ -67,7 +67,10 @@ fn print_noted<R: Threads + Sync + Print + AllocGlobal>(rt: &R, batch: Batch) ->
             return Err(fault.into());
         }
     };
-    let printed = print_run(rt, batch, &gate).and_then(|()| print_places(rt, &gate));
+    let printed = match print_run(rt, batch, &gate) {
+        Ok(()) => print_places(rt, &gate),
+        Err(fault) => Err(fault),
+    };
     drop(gate);
     printed
 }

@@ -11,7 +11,7 @@ use Rattle.http_items.specs.Items.{Heard, Asked, Faulty, IsWithin}
 use Rattle.recorded_arrivals.specs.Arrivals.{Arrived}
 use Rattle.serve_config.specs.declared.tenants.Tenant.{Tenant}
 use Rattle.serve_config.specs.Routing.{HasNumber, all_routes, route_number}
-use Rattle.recorded_runner.specs.Fates.{Decided, meter_of, no_meter, meter_at_first, asked_of, asked_in, meter_behind, fate_by_answer, fate_by_route, fate_of_heard, fate_of, decided_item, decided_behind}
+use Rattle.recorded_runner.specs.Fates.{Decided, Entry, entry_of, meter_of, no_meter, meter_at_first, asked_of, asked_in, meter_behind, fate_by_answer, fate_by_route, fate_of_heard, fate_of, decided_item, decided_behind}
 use Rattle.recorded_runner.specs.Serving.{IsServable}
 use Rattle.recorded_runner.proofs.RouteLaws.{below_some}
 
@@ -106,14 +106,14 @@ route_below numbered tenants tenant path number is =
     let has = numbered tenants tenant path number is in
     below_some (all_routes tenants) number has.0 has.1
 
-answered : (tenants : List Tenant) (answer : Admission) (route : ℕ) (body : List ℕ) → route < length (all_routes tenants) → length body ≤ 1048576 → IsServable tenants (fate_by_answer answer route body)
-answered tenants Entered route body known fits = (known, fits)
-answered tenants (Spent level estimate capacity) route body known fits = tt
+answered : (tenants : List Tenant) (answer : Admission) (entry : Entry) → entry.route < length (all_routes tenants) → length entry.body ≤ 1048576 → IsServable tenants (fate_by_answer answer entry)
+answered tenants Entered entry known fits = (known, fits)
+answered tenants (Spent level estimate capacity) entry known fits = tt
 
 routed : (tenants : List Tenant) (meter : Bucket) (moment : ℕ) (route : Option ℕ) (body : List ℕ) → ((number : ℕ) → route ≡ Some number → number < length (all_routes tenants)) → length body ≤ 1048576
     → IsServable tenants (fate_by_route tenants meter moment route body)
 routed tenants meter moment None body known fits = tt
-routed tenants meter moment (Some number) body known fits = answered tenants _ number body (known number refl) fits
+routed tenants meter moment (Some number) body known fits = answered tenants _ (entry_of tenants moment number body) (known number refl) fits
 
 heard_servable : AreNumbered → (tenants : List Tenant) (tenant : ℕ) (meter : Bucket) (moment : ℕ) (heard : Heard) → IsWithin heard → IsServable tenants (fate_of_heard tenants tenant meter moment heard)
 heard_servable numbered tenants tenant meter moment (Asked method path keep body) within =

@@ -5,3 +5,4 @@ pub mod FateLaws
 pub mod ServedLaws
 pub mod BatchLaws
 pub mod ReplayLaws
+pub mod SizeLaws

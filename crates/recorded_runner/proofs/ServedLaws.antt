@@ -14,10 +14,11 @@ use Rattle.wasm_meaning.specs.Programs.{Program}
 use Rattle.wasm_meaning.specs.Requests.{Request, Verdict, units}
 use Rattle.wasm_meaning.specs.Requests as requests
 use Rattle.workers.specs.Batches.{IsAnswerTo}
+use Rattle.workers.specs.Outcomes.{reported_verdict, reported_of}
 use Rattle.recorded_runner.specs.Batch.{IsAnswerFor, IsJobOf, IsWithinBudgets}
-use Rattle.recorded_runner.specs.Fates.{Fate, Refuses, Admits, Decided}
+use Rattle.recorded_runner.specs.Fates.{Entry, Fate, Refuses, Admits, Decided}
 use Rattle.recorded_runner.specs.Lookups.{of_member}
-use Rattle.recorded_runner.specs.Replies.{reported_verdict, reported_of, request_to, request_at, verdict_at, reported_fate, content_type_at, reply_to}
+use Rattle.recorded_runner.specs.Replies.{request_to, request_at, verdict_at, reported_fate, content_type_at, reply_to}
 use Rattle.recorded_runner.specs.Serving.{AreProgramsOf, AreRoomy, IsReplyTo}
 use Rattle.recorded_runner.specs.Summaries.{admitted_in, cost_of, cost_in, turns_in}
 use Rattle.recorded_runner.proofs.RouteLaws.{program_fits, routes_in_range}
@@ -49,15 +50,15 @@ budget_fits (r ∷ routes) zero all = all.0.budget
 budget_fits (r ∷ routes) (suc route) all = budget_fits routes route all.1
 
 pub within_budgets : (tenants : List Tenant) (programs : List Program) (quantum : ℕ) → AllByRecursion IsTenantInRange tenants → ((request : Request) → units request ≤ request.budget)
-    → (route : ℕ) (body : List ℕ) (answer : AnswerView) → IsAnswerFor tenants programs quantum route body answer → IsWithinBudgets route body answer
-within_budgets tenants programs quantum all within route body answer a =
-    let f = found tenants programs route body a.request a.made in
-    omega (arith, within a.request, a.answers.answers.units_are, ap (λ (q : Request). q.budget) f.is, budget_fits (all_routes tenants) route (routes_in_range tenants all))
+    → (entry : Entry) (answer : AnswerView) → IsAnswerFor tenants programs quantum entry answer → IsWithinBudgets entry answer
+within_budgets tenants programs quantum all within entry answer a =
+    let f = found tenants programs entry.route entry.body a.request a.made in
+    omega (arith, within a.request, a.answers.answers.units_are, ap (λ (q : Request). q.budget) f.is, budget_fits (all_routes tenants) entry.route (routes_in_range tenants all))
 
 -- the answer to an item's job is the item's
-pub answers_for : (tenants : List Tenant) (programs : List Program) (quantum route : ℕ) (body : List ℕ) (job : AdmittedView) (answer : AnswerView)
-    → IsJobOf tenants programs route body job → IsAnswerTo quantum job answer → IsAnswerFor tenants programs quantum route body answer
-answers_for tenants programs quantum route body job answer j a = record { request = job.request; made = j.made; answers = a.answers }
+pub answers_for : (tenants : List Tenant) (programs : List Program) (quantum : ℕ) (entry : Entry) (job : AdmittedView) (answer : AnswerView)
+    → IsJobOf tenants programs entry job → IsAnswerTo quantum job answer → IsAnswerFor tenants programs quantum entry answer
+answers_for tenants programs quantum entry job answer j a = record { request = job.request; made = j.made; answers = a.answers }
 
 -- ---- the item
 
@@ -69,19 +70,19 @@ verdict_made : (tenants : List Tenant) (programs : List Program) (route : ℕ) (
     → verdict_at tenants programs route body ≡ Some given
 verdict_made tenants programs route body request given made is = ap (λ o. option_and_then requests.verdict o) made ∙ is
 
-served_reply : (tenants : List Tenant) (programs : List Program) (quantum route : ℕ) (body : List ℕ) (d : Decided) (reply : List ℕ) (answer : AnswerView) → d.fate ≡ Admits route body
-    → IsAnswerFor tenants programs quantum route body answer
-    → reply ≡ reply_of (reported_verdict answer.verdict) (of_member (λ r. r.content_type) [] (all_routes tenants) route) d.head d.keep → reply ≡ reply_to tenants programs d
+served_reply : (tenants : List Tenant) (programs : List Program) (quantum : ℕ) (entry : Entry) (d : Decided) (reply : List ℕ) (answer : AnswerView) → d.fate ≡ Admits entry
+    → IsAnswerFor tenants programs quantum entry answer
+    → reply ≡ reply_of (reported_verdict answer.verdict) (of_member (λ r. r.content_type) [] (all_routes tenants) entry.route) d.head d.keep → reply ≡ reply_to tenants programs d
 unfolding reply_to
-served_reply tenants programs quantum route body d reply answer is a reply_is =
-    let told : reported_of (verdict_at tenants programs route body) ≡ reported_verdict answer.verdict = ap (λ o. reported_of o) (verdict_made tenants programs route body a.request answer.verdict a.made a.answers.answers.verdict_is) in
+served_reply tenants programs quantum entry d reply answer is a reply_is =
+    let told : reported_of (verdict_at tenants programs entry.route entry.body) ≡ reported_verdict answer.verdict = ap (λ o. reported_of o) (verdict_made tenants programs entry.route entry.body a.request answer.verdict a.made a.answers.answers.verdict_is) in
     reply_is
-    ∙ ap (λ (r : Reported). reply_of r (of_member (λ r. r.content_type) [] (all_routes tenants) route) d.head d.keep) (sym told)
+    ∙ ap (λ (r : Reported). reply_of r (of_member (λ r. r.content_type) [] (all_routes tenants) entry.route) d.head d.keep) (sym told)
     ∙ ap (λ (f : Fate). reply_of (reported_fate tenants programs f) (content_type_at tenants f) d.head d.keep) (sym is)
 
-served_cost : (cost : Request → ℕ) (tenants : List Tenant) (programs : List Program) (route : ℕ) (body : List ℕ) (fate : Fate) (request : Request) (spent : ℕ) → fate ≡ Admits route body
-    → request_at tenants programs route body ≡ Some request → spent ≡ cost request → spent ≡ cost_in cost tenants programs fate
-served_cost cost tenants programs route body fate request spent is made due =
+served_cost : (cost : Request → ℕ) (tenants : List Tenant) (programs : List Program) (entry : Entry) (fate : Fate) (request : Request) (spent : ℕ) → fate ≡ Admits entry
+    → request_at tenants programs entry.route entry.body ≡ Some request → spent ≡ cost request → spent ≡ cost_in cost tenants programs fate
+served_cost cost tenants programs entry fate request spent is made due =
     due ∙ ap (λ o. cost_of cost o) (sym made) ∙ ap (λ (f : Fate). cost_in cost tenants programs f) (sym is)
 
 pub refused_is : (c : Configuration) (programs : List Program) (d : Decided) (refusal : Refusal) (reply : List ℕ) (admitted turns cost : ℕ) → d.fate ≡ Refuses refusal
@@ -93,13 +94,13 @@ refused_is c programs d refusal reply admitted turns cost is due none unspent fr
   units_are = free ∙ ap (λ (f : Fate). cost_in units c.tenants programs f) (sym is);
 }
 
-pub answered_is : (c : Configuration) (programs : List Program) (d : Decided) (route : ℕ) (body : List ℕ) (answer : AnswerView) (reply : List ℕ) (admitted turns cost : ℕ) → d.fate ≡ Admits route body
-    → IsAnswerFor c.tenants programs c.quantum route body answer
-    → reply ≡ reply_of (reported_verdict answer.verdict) (of_member (λ r. r.content_type) [] (all_routes c.tenants) route) d.head d.keep → admitted ≡ 1 → turns ≡ answer.turns → cost ≡ answer.units
+pub answered_is : (c : Configuration) (programs : List Program) (d : Decided) (entry : Entry) (answer : AnswerView) (reply : List ℕ) (admitted turns cost : ℕ) → d.fate ≡ Admits entry
+    → IsAnswerFor c.tenants programs c.quantum entry answer
+    → reply ≡ reply_of (reported_verdict answer.verdict) (of_member (λ r. r.content_type) [] (all_routes c.tenants) entry.route) d.head d.keep → admitted ≡ 1 → turns ≡ answer.turns → cost ≡ answer.units
     → IsReplyTo c programs d reply admitted turns cost
-answered_is c programs d route body answer reply admitted turns cost is a due one spent paid = record {
-  reply_is = served_reply c.tenants programs c.quantum route body d reply answer is a due;
+answered_is c programs d entry answer reply admitted turns cost is a due one spent paid = record {
+  reply_is = served_reply c.tenants programs c.quantum entry d reply answer is a due;
   admitted_is = one ∙ ap (λ (f : Fate). admitted_in f) (sym is);
-  turns_are = served_cost (turns_in c.quantum) c.tenants programs route body d.fate a.request turns is a.made (spent ∙ a.answers.turns_are);
-  units_are = served_cost units c.tenants programs route body d.fate a.request cost is a.made (paid ∙ a.answers.answers.units_are);
+  turns_are = served_cost (turns_in c.quantum) c.tenants programs entry d.fate a.request turns is a.made (spent ∙ a.answers.turns_are);
+  units_are = served_cost units c.tenants programs entry d.fate a.request cost is a.made (paid ∙ a.answers.answers.units_are);
 }

@@ -1,5 +1,5 @@
 -- What becomes of each item. The first refusal of an item counts, in this order: one that its bytes have; that its path has no route; that its tenant's meter is spent.
-use Rattle.std.specs.Prelude.{ℕ, Bool, List, [], ◌∷◌, ◌++◌, Option, None, Some, slice_index, if◌then◌else◌, ◌==◌}
+use Rattle.std.specs.Prelude.{ℕ, ◌+◌, ◌-◌, ◌^◌, min, Bool, List, [], ◌∷◌, ◌++◌, Option, None, Some, slice_index, if◌then◌else◌, ◌==◌}
 use Rattle.std.specs.List.{flat_map}
 use Rattle.admission.specs.Bucket.{Bucket}
 use Rattle.admission.specs.Metering.{Question, ask, behind_all}
@@ -17,10 +17,16 @@ use Rattle.serve_config.specs.Routing.{all_routes, route_number}
 use Rattle.recorded_runner.specs.Lookups.{of_member}
 use Rattle.recorded_arrivals.specs.Arrivals.{Arrived, arrivals}
 
--- an item is refused, or it is a request that is admitted to the route with this number, with this body
+-- a request that is admitted: the number of its route, the moment by which its answer is due, in milliseconds, and its body
+pub record Entry : Type 0 where
+  pub route : ℕ
+  pub deadline : ℕ
+  pub body : List ℕ
+
+-- an item is refused, or it is a request that is admitted
 pub data Fate : Type 0 where
   Refuses : (refusal : Refusal) → Fate
-  Admits : (route : ℕ) (body : List ℕ) → Fate
+  Admits : (entry : Entry) → Fate
 
 -- The meters.
 
@@ -59,13 +65,21 @@ meter_behind tenants owners tenant arrived = behind_all (meter_at_first tenants 
 
 -- The fate of an item.
 
-abbrev pub fate_by_answer : Admission → (route : ℕ) → (body : List ℕ) → Fate
-fate_by_answer Entered route body = Admits route body
-fate_by_answer (Spent level estimate capacity) route body = Refuses AdmissionSpent
+-- the moment by which the answer to a request is due: its own with the deadline of its route on top, or the last one that 64 bits can tell
+abbrev pub due_at : List Tenant → (moment route : ℕ) → ℕ
+due_at tenants moment route = min (moment + of_member (λ r. r.deadline) 0 (all_routes tenants) route) (2 ^ 64 - 1)
+
+abbrev pub entry_of : List Tenant → (moment route : ℕ) → (body : List ℕ) → Entry
+entry_of tenants moment route body = record { route = route; deadline = due_at tenants moment route; body = body }
+
+abbrev pub fate_by_answer : Admission → Entry → Fate
+fate_by_answer Entered entry = Admits entry
+fate_by_answer (Spent level estimate capacity) entry = Refuses AdmissionSpent
 
 abbrev pub fate_by_route : List Tenant → Bucket → (moment : ℕ) → (route : Option ℕ) → (body : List ℕ) → Fate
 fate_by_route tenants meter moment None body = Refuses NoRoute
-fate_by_route tenants meter moment (Some route) body = fate_by_answer (ask meter moment (estimate_at tenants route)).0 route body
+fate_by_route tenants meter moment (Some route) body =
+    fate_by_answer (ask meter moment (estimate_at tenants route)).0 (entry_of tenants moment route body)
 
 -- of what was heard on a connection of a tenant, whose meter stands so
 abbrev pub fate_of_heard : List Tenant → (tenant : ℕ) → Bucket → (moment : ℕ) → Heard → Fate

@@ -4,6 +4,7 @@ pub mod Replies
 pub mod ReplayText
 pub mod Summaries
 pub mod Serving
+pub mod Sizes
 pub mod Batch
 pub mod Seen
 pub mod Joined

@@ -1,33 +1,15 @@
 -- The reply to each item: that of its refusal, or that of the verdict of its request.
-use Rattle.std.specs.Prelude.{ℕ, Bool, true, false, List, [], ◌==◌, Option, None, Some, option_and_then, option_map, slice_get}
+use Rattle.std.specs.Prelude.{ℕ, List, [], Option, option_and_then, option_map, slice_get}
 use Rattle.http_front.specs.Reply.{reply_of}
-use Rattle.http_front.specs.Reported.{Reported, Replied, Exited, Trapped, OutOfBudget, RefusedAs}
+use Rattle.http_front.specs.Reported.{Reported, RefusedAs}
 use Rattle.serve_config.specs.declared.tenants.Tenant.{Tenant}
 use Rattle.serve_config.specs.Routing.{all_routes}
 use Rattle.wasm_meaning.specs.Programs.{Program}
 use Rattle.wasm_meaning.specs.Requests as requests
 use Rattle.wasm_meaning.specs.Requests.{Request, Verdict}
-use Rattle.wasm_ops.specs.Traps.{trap_text}
+use Rattle.workers.specs.Outcomes.{reported_of}
 use Rattle.recorded_runner.specs.Lookups.{of_member}
 use Rattle.recorded_runner.specs.Fates.{Fate, Refuses, Admits, Decided}
-
--- What a reply reports of a verdict.
-
--- a function that ends itself with code 0 has replied
-abbrev pub reported_exit : (is_zero : Bool) → (code : ℕ) → (reply : List ℕ) → Reported
-reported_exit true code reply = Replied reply
-reported_exit false code reply = Exited code
-
-abbrev pub reported_verdict : Verdict → Reported
-reported_verdict (requests.Replied reply) = Replied reply
-reported_verdict (requests.Exit code reply) = reported_exit (code == 0) code reply
-reported_verdict (requests.Trap why) = Trapped (trap_text why)
-reported_verdict requests.BudgetSpent = OutOfBudget
-
--- each request to a program has a verdict; one that had none would be told as if its budget were spent
-abbrev pub reported_of : Option Verdict → Reported
-reported_of (Some found) = reported_verdict found
-reported_of None = OutOfBudget
 
 -- The requests that are admitted.
 
@@ -48,12 +30,12 @@ verdict_at tenants programs route body = option_and_then requests.verdict (reque
 
 abbrev pub reported_fate : List Tenant → List Program → Fate → Reported
 reported_fate tenants programs (Refuses refusal) = RefusedAs refusal
-reported_fate tenants programs (Admits route body) = reported_of (verdict_at tenants programs route body)
+reported_fate tenants programs (Admits entry) = reported_of (verdict_at tenants programs entry.route entry.body)
 
 -- the content type of a route's replies; a refusal has that of its own text
 abbrev pub content_type_at : List Tenant → Fate → List ℕ
 content_type_at tenants (Refuses refusal) = []
-content_type_at tenants (Admits route body) = of_member (λ r. r.content_type) [] (all_routes tenants) route
+content_type_at tenants (Admits entry) = of_member (λ r. r.content_type) [] (all_routes tenants) entry.route
 
 -- the reply to an item
 unfoldable pub reply_to : List Tenant → List Program → Decided → List ℕ

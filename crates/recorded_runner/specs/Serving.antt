@@ -43,7 +43,7 @@ pub record IsPlayed (config : Configuration) (programs : List Program) (records 
 -- a request that can be served: its route is one of the tenants', and its body is not too long
 abbrev pub IsServable : List Tenant → Fate → Type 0
 IsServable tenants (Refuses refusal) = Unit {0}
-IsServable tenants (Admits route body) = (route < length (all_routes tenants)) × (length body ≤ 1048576)
+IsServable tenants (Admits entry) = (entry.route < length (all_routes tenants)) × (length entry.body ≤ 1048576)
 
 -- so many pages are enough for each route
 abbrev pub AreRoomy : (pages : ℕ) → List Route → Type 0

@@ -13,7 +13,7 @@ use Rattle.recorded_runner.specs.declared.played.Summary.{Summary}
 -- an item that is admitted counts one
 abbrev pub admitted_in : Fate → ℕ
 admitted_in (Refuses refusal) = 0
-admitted_in (Admits route body) = 1
+admitted_in (Admits entry) = 1
 
 -- what this says of the request of an item, and nothing for a refusal
 abbrev pub cost_of : (Request → ℕ) → Option Request → ℕ
@@ -22,7 +22,7 @@ cost_of cost (Some request) = cost request
 
 abbrev pub cost_in : (Request → ℕ) → List Tenant → List Program → Fate → ℕ
 cost_in cost tenants programs (Refuses refusal) = 0
-cost_in cost tenants programs (Admits route body) = cost_of cost (request_at tenants programs route body)
+cost_in cost tenants programs (Admits entry) = cost_of cost (request_at tenants programs entry.route entry.body)
 
 -- the turns of a request, each of a quantum of units
 abbrev pub turns_in : (quantum : ℕ) → Request → ℕ

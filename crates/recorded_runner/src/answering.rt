@@ -6,17 +6,18 @@ ghost use Rattle.serve_config.specs.Routing.{all_routes};
 ghost use Rattle.wasm_meaning.specs.Programs.{Program};
 ghost use Rattle.recorded_runner.specs.Batch.{FirstIs, IsAnswerFor, IsWithinBudgets, behind};
 ghost use Rattle.recorded_runner.specs.Lookups.{of_member};
-ghost use Rattle.recorded_runner.specs.Replies.{reported_verdict};
 ghost use Rattle.recorded_runner.specs.Seen.{awaited_seen};
 ghost use Rattle.recorded_runner.specs.Serving.{IsReplyTo, IsServable};
+ghost use Rattle.recorded_runner.specs.Sizes.{most_reply};
+ghost use Rattle.workers.specs.Outcomes.{reported_verdict};
 
 use crate::batching::{Awaited, Source};
-use crate::outcomes::outcome;
 use http_front::{Outcome, Refusal, reply_text};
 use sandbox_states::Answer;
 use serve_config::Config;
 use std::alloc::{AllocError, Global};
 use std::collections::VecDeque;
+use workers::outcome;
 
 /// A reply, how many requests it answers that were admitted, which is one or none, and what these took.
 #[derive(Drop)]
@@ -41,6 +42,7 @@ pub(crate) fn reply_next(
         (awaited_seen item).fate answers.old.items
         → IfOk result (λ r. IsReplyTo config.now programs (awaited_seen item)
         r.reply.items r.admitted r.turns r.units) }
+    ensures short { IfOk result (λ r. length r.reply.items ≤ most_reply) }
     ensures few { IfOk result (λ r. (r.admitted ≤ 1) × ((r.turns ≤ 2 ^ 40 + 1) × (r.units ≤ 2 ^ 40))) }
     ensures left { answers.new.items ≡ behind (awaited_seen item).fate answers.old.items }
 {
@@ -79,9 +81,11 @@ fn reply_to_refusal(
     head: bool,
     keep: bool,
 ) -> Result<Vec<u8>, AllocError>
-    ensures { IfOk result (λ reply. reply.items ≡ reply_of (RefusedAs refusal) [] head keep) }
+    ensures reply { IfOk result (λ reply. reply.items ≡ reply_of (RefusedAs refusal) [] head keep) }
+    ensures short { IfOk result (λ reply. length reply.items ≤ most_reply) }
 {
-    reply_text(alloc, Outcome::Refused(refusal.number()), "", head, keep)
+    let reply = reply_text(alloc, Outcome::Refused(refusal.number()), "", head, keep)?;
+    Ok(reply)
 }
 
 /// The reply to a request of a route, from its answer.
@@ -94,9 +98,11 @@ fn reply_to_answer(
     keep: bool,
 ) -> Result<Vec<u8>, AllocError>
     requires known { route < length (all_routes config.now.tenants) }
-    ensures { IfOk result (λ reply. reply.items ≡ reply_of (reported_verdict answer.now.verdict)
+    ensures reply { IfOk result (λ reply. reply.items ≡ reply_of (reported_verdict answer.now.verdict)
         (of_member (λ r. r.content_type) [] (all_routes config.now.tenants) route) head keep) }
+    ensures short { IfOk result (λ reply. length reply.items ≤ most_reply) }
 {
     let content_type = config.route(route).content_type.as_str();
-    reply_text(alloc, outcome(answer), content_type, head, keep)
+    let reply = reply_text(alloc, outcome(answer), content_type, head, keep)?;
+    Ok(reply)
 }

@@ -29,10 +29,11 @@ pub(crate) enum Source {
     Answered(Sent),
 }
 
-/// A request that went into the batch: the number of its route, and its body, for proofs alone.
+/// A request that went into the batch: the number of its route, and for proofs alone when its answer is due, and its body.
 #[derive(Drop)]
 pub(crate) struct Sent {
     pub(crate) route: u32,
+    deadline: Snapshot<u64>,
     body: Snapshot<Vec<u8>>,
 }
 
@@ -103,6 +104,7 @@ fn add_job(
         Fate::Admitted(entry) => {
             let sent = Sent {
                 route: entry.route,
+                deadline: Snapshot::of(&entry.deadline),
                 body: Snapshot::of(&entry.body),
             };
             let place = jobs.len() as u32;

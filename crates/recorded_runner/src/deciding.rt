@@ -122,7 +122,7 @@ fn admit(config: &Config, route: Option<u32>, meter: &mut Meter, moment: u32, bo
     match meter.admit(moment as u64, route.estimate) {
         Admission::Entered => Fate::Admitted(Entry {
             route: number,
-            deadline: moment as u64 + route.deadline,
+            deadline: (moment as u64).saturating_add(route.deadline),
             body,
         }),
         Admission::Spent { .. } => Fate::Refused(Refusal::AdmissionSpent),

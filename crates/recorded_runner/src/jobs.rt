@@ -3,6 +3,7 @@ ghost use Rattle.std.specs.Prelude.{◌≡◌, ◌≤◌, ◌<◌, ◌^◌, leng
 ghost use Rattle.serve_config.specs.Loaded.{programs_in};
 ghost use Rattle.serve_config.specs.Routing.{all_routes};
 ghost use Rattle.recorded_runner.specs.Batch.{IsJobOf};
+ghost use Rattle.recorded_runner.specs.Seen.{entry_seen};
 
 use crate::deciding::Entry;
 use sandbox_states::Admitted;
@@ -24,7 +25,7 @@ pub(crate) fn job_of(
     requires each { length programs.now ≡ length (all_routes config.now.tenants) }
     requires fits { length entry.body.items ≤ 2 ^ 20 }
     ensures job { IfOk result
-        (IsJobOf config.now.tenants (programs_in programs.now) entry.route entry.body.items) }
+        (IsJobOf config.now.tenants (programs_in programs.now) (entry_seen entry)) }
     ensures place { IfOk result (λ job. job.place ≡ place) }
 {
     let Entry {

@@ -11,14 +11,12 @@ mod deciding;
 mod jobs;
 pub mod laws;
 mod meters;
-mod outcomes;
 mod played;
 mod replaying;
 mod replies;
 mod serving;
 mod settings;
 
-pub use outcomes::outcome;
 pub use played::{Played, Summary};
 pub use recording_format::{Event, Piece, Record, Recording, RecordingFault, read_recording};
 pub use replaying::replay;

@@ -1,9 +1,11 @@
 //! The replay of a recording.
-ghost use Rattle.std.specs.Prelude.{◌≡◌, IfOk, IfErr, length};
+ghost use Rattle.std.specs.Prelude.{◌≡◌, ◌<◌, ◌^◌, ℕ, IfOk, IfErr, length};
 ghost use Rattle.recording_format.specs.Connections.{tenants_of};
 ghost use Rattle.serve_config.specs.Loaded.{programs_in};
 ghost use Rattle.serve_config.specs.Routing.{all_routes};
 ghost use Rattle.recorded_arrivals.specs.Limits.{IsTooMany};
+ghost use Rattle.recorded_runner.specs.Fates.{decided};
+ghost use Rattle.recorded_runner.specs.ReplayText.{replies_on};
 ghost use Rattle.recorded_runner.specs.Serving.{AreOwned, AreProgramsOf, IsPlayed};
 
 use crate::deciding::decide_all;
@@ -24,6 +26,8 @@ use wasm_instance::Program;
 ///
 /// The programs are those of the configuration's routes, in order, and the recording is one that was read with its number of tenants. A recording of more than 4,096 items is refused as 77, `TooManyRequests`, before any request runs; the only other error is want of memory.
 ///
+/// Each connection has fewer than 2^32 bytes of replies, so the text tells their length.
+///
 /// Each connection's pieces go through a `Front`, in the order of the records. The meters are asked for the requests in the order of their arrival. All requests that are admitted are made before the first turn, each with its body, so all bodies stand in memory at once.
 ///
 /// Then they run as one batch: as many workers as the configuration says take them up in any order, in turns of its quantum, by its policy, on its berths of the largest pages that a route has; the calling thread finishes what they leave. The gate is passed before each turn by whichever worker runs it, 0 to `workers` - 1, or `workers` for the calling thread, with the request's number among those that are admitted and the turns that it has had. Behind the last turn the replies are made, in the order of the items.
@@ -39,6 +43,8 @@ pub fn replay<R: Threads + Sync, G: Gate>(
     requires tenants { AreOwned (length config.now.tenants) recording.now }
     ensures played { IfOk result (λ played. IsPlayed config.now (programs_in programs.now) recording.now played) }
     ensures refused { IfErr result (IsTooMany recording.now) }
+    ensures short { IfOk result (λ played. (link : ℕ)
+        → length (replies_on config.now.tenants (programs_in programs.now) link (decided config.now.tenants recording.now)) < 2 ^ 32) }
 {
     items_within_limits();
     routes_are_numbered();

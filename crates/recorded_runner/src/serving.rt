@@ -1,5 +1,5 @@
 //! Serving all items: their requests run by the workers of a batch, and their replies in order.
-ghost use Rattle.std.specs.Prelude.{◌≡◌, ◌∷◌, [], ◌++◌, ◌≤◌, ◌<◌, List, length, map, IfOk, OnOk};
+ghost use Rattle.std.specs.Prelude.{◌≡◌, ◌∷◌, [], ◌++◌, ◌+◌, ◌^◌, ◌≤◌, ◌<◌, ℕ, List, length, map, IfOk, OnOk};
 ghost use Rattle.std.specs.List.{AllByRecursion};
 ghost use Rattle.serve_config.specs.Configuration.{Configuration};
 ghost use Rattle.serve_config.specs.Loaded.{programs_in};
@@ -7,8 +7,10 @@ ghost use Rattle.serve_config.specs.Routing.{all_routes};
 ghost use Rattle.wasm_meaning.specs.Programs.{Program as ProgramValue};
 ghost use Rattle.recorded_runner.specs.Batch.{FirstIs, IsAnswerFor, IsWithinBudgets, behind};
 ghost use Rattle.recorded_runner.specs.Fates.{Decided as DecidedValue};
+ghost use Rattle.recorded_runner.specs.ReplayText.{replies_on};
 ghost use Rattle.recorded_runner.specs.Seen.{awaited_seen, decided_seen};
 ghost use Rattle.recorded_runner.specs.Serving.{AreProgramsOf, IsServable};
+ghost use Rattle.recorded_runner.specs.Sizes.{AreWithin, most_reply};
 ghost use Rattle.recorded_runner.specs.Tallies.{IsSmall, IsTallied, IsWritten};
 
 use crate::answering::{Replied, reply_next};
@@ -51,8 +53,10 @@ pub(crate) fn serve_all<R: Threads + Sync, G: Gate>(
     requires begun { AllByRecursion (λ (d : DecidedValue). d.link < connections)
         (map decided_seen decided.items) }
     requires few { length decided.items ≤ 4096 }
-    ensures { IfOk result
+    ensures written { IfOk result
         (λ played. IsWritten config.now (programs_in programs.now) connections (map decided_seen decided.items) played) }
+    ensures short { IfOk result (λ played. (link : ℕ)
+        → length (replies_on config.now.tenants (programs_in programs.now) link (map decided_seen decided.items)) < 2 ^ 32) }
 {
     requests_keep_their_verdict();
     // The ranges that each configuration keeps bound the budgets, and so the units.
@@ -90,6 +94,8 @@ fn serve_next(
         → OnOk result (IsTallied config.now programs (done ++ awaited_seen item ∷ [])
         tally.new.replies.items tally.new.summary) }
     ensures left { answers.new.items ≡ behind (awaited_seen item).fate answers.old.items }
+    ensures short { (most : ℕ) → AreWithin most tally.old.replies.items
+        → OnOk result (AreWithin (most + most_reply) tally.new.replies.items) }
     ensures small { OnOk result (IsSmall tally.new.summary) }
     ensures counted { OnOk result (length tally.new.replies.items ≡ length tally.old.replies.items) }
 {
@@ -108,8 +114,13 @@ fn serve_next(
 /// What comes of all replies.
 fn played(alloc: Global, tally: Tally) -> Result<Played, AllocError>
     requires few { length tally.replies.items < 4294967296 }
-    ensures { (config : Configuration) (programs : List ProgramValue) (done : List DecidedValue) → IsTallied config programs done tally.replies.items tally.summary
+    ensures written { (config : Configuration) (programs : List ProgramValue) (done : List DecidedValue)
+        → IsTallied config programs done tally.replies.items tally.summary
         → IfOk result (λ played. IsWritten config programs (length tally.replies.items) done played) }
+    ensures short { (config : Configuration) (programs : List ProgramValue) (done : List DecidedValue) (most : ℕ)
+        → IsTallied config programs done tally.replies.items tally.summary
+        → AreWithin most tally.replies.items
+        → (link : ℕ) → length (replies_on config.tenants programs link done) ≤ most }
 {
     let text = text_of(alloc, tally.replies.as_slice())?;
     Ok(Played {

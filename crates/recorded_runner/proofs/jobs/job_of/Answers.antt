@@ -22,4 +22,5 @@ returns-in-Ok-clone-clause-job c =
           job_made tenants (programs_in shared) route c.args.entry.body.items (arc_value c.index-programs-route.result) c.route.result.now indexed c.route.ensures.is
           ∙ ap₂ (λ (p : Program) (bytes : List ℕ). Some (request_made p bytes budget)) (sym same) (sym body)
           ∙ ap (λ (j : AdmittedView). Some j.request) (sym c.new-in-Ok-clone.ensures);
+      due = ap (λ (j : AdmittedView). j.deadline) c.new-in-Ok-clone.ensures;
     }

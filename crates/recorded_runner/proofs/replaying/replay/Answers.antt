@@ -13,7 +13,7 @@ use Rattle.recorded_runner.specs.Fates.{Decided, decided_behind}
 use Rattle.recorded_runner.specs.Seen.{decided_seen}
 use Rattle.recorded_runner.specs.Serving.{IsServable}
 use Rattle.recorded_runner.proofs.FateLaws.{all_servable, all_begun, as_many}
-use Rattle.recorded_runner.proofs.ReplayLaws.{owners_known, played_is}
+use Rattle.recorded_runner.proofs.ReplayLaws.{owners_known, played_is, short_is}
 use Rattle.recorded_runner.proofs.replaying.replay.Goals as goal
 
 pub decide_all-requires-clause-within : goal.decide_all-requires-clause-within
@@ -66,4 +66,12 @@ returns-clause-played g c =
     let few : length (arrivals rs) ≤ 4096 = omega (arith, ap (λ (items : List Arrived). length items) all, length-map c.in_ok-arrived.arrived.items arrival_seen, c.in_ok-arrived.ensures.few, c.in_ok-arrived.arrived.ok.0) in
     let many : length (tenants_of rs) ≡ c.connections-connections.result = sym (c.connections-connections.ensures.begun ∙ begun rs) in
     let is = c.in_ok-decided.ensures ∙ ap₂ (λ (os : List ℕ) (items : List Arrived). decided_behind tenants os [] items) owners all in
-    played_is c.args.config.now (programs_in c.args.programs.now) rs c.connections-connections.result (map decided_seen c.in_ok-decided.decided.items) c.in_ok-serve_all.field-0 few many is c.in_ok-serve_all.ensures
+    played_is c.args.config.now (programs_in c.args.programs.now) rs c.connections-connections.result (map decided_seen c.in_ok-decided.decided.items) c.in_ok-serve_all.field-0 few many is c.in_ok-serve_all.ensures.written
+
+pub returns-clause-short : goal.returns-clause-short
+returns-clause-short g c =
+    let rs = c.args.recording.now in
+    let tenants = c.args.config.now.tenants in
+    let owners : c.as_slice.result.now ≡ tenants_of rs = c.as_slice.ensures.value ∙ c.in_ok-owners.ensures ∙ ap (λ (these : List Record). tenants_of these) c.records.ensures.same in
+    let is = c.in_ok-decided.ensures ∙ ap₂ (λ (os : List ℕ) (items : List Arrived). decided_behind tenants os [] items) owners c.in_ok-arrived.ensures.all in
+    short_is c.args.config.now (programs_in c.args.programs.now) rs (map decided_seen c.in_ok-decided.decided.items) is c.in_ok-serve_all.ensures.short

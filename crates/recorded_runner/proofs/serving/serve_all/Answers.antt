@@ -1,4 +1,4 @@
-use Rattle.std.proofs.Common.{◌≡◌, ℕ, ◌<◌, List, [], ◌∷◌, ◌++◌, length, map, drop, sym, ap, subst, ◌∙◌, arith}
+use Rattle.std.proofs.Common.{◌≡◌, ℕ, ◌+◌, ◌*◌, ◌<◌, List, [], ◌∷◌, ◌++◌, length, map, drop, sym, ap, subst, ◌∙◌, arith}
 use Rattle.std.proofs.lemmas.List.{length-map, length-replicate, length_push, map-append}
 use Rattle.std.proofs.lemmas.List.Elements.{All-from_recursion}
 use Rattle.std.proofs.lemmas.Iterator.Adapters.{YieldsList-from_vec}
@@ -16,6 +16,7 @@ use Rattle.recorded_runner.specs.declared.played.Summary.{Summary}
 use Rattle.recorded_runner.proofs.BatchLaws.{as_few, each_own, first_weaker, next_left, of_zipped}
 use Rattle.recorded_runner.proofs.RouteLaws.{mapped_read}
 use Rattle.recorded_runner.proofs.ServedLaws.{answers_for, request_fits, within_budgets}
+use Rattle.recorded_runner.proofs.SizeLaws.{none_within, wider}
 use Rattle.recorded_runner.proofs.TallyLaws.{at_first}
 use Rattle.recorded_runner.proofs.serving.serve_all.Goals as goal
 
@@ -38,7 +39,7 @@ run_batch-requires-clause-pages g c κs within =
     let pages = c.settings_of.result.pages in
     All-from_recursion (FitsBerths pages) c.in_ok-awaited.field-0.jobs.items
     (each_own (IsJobOf tenants programs) (FitsBerths pages) (map decided_seen c.args.decided.items) c.in_ok-awaited.field-0.jobs.items
-    (λ route body job made. request_fits pages tenants programs route body job.request c.requires.programs c.settings_of.ensures.roomy made.made) c.in_ok-awaited.ensures.jobs)
+    (λ entry job made. request_fits pages tenants programs entry.route entry.body job.request c.requires.programs c.settings_of.ensures.roomy made.made) c.in_ok-awaited.ensures.jobs)
 
 pub loop-item-init : goal.loop-item-init
 loop-item-init g c =
@@ -54,9 +55,10 @@ loop-item-init g c =
       small = subst (λ (s : Summary). IsSmall s) (sym c.nothing.ensures) none_small;
       counted = ap (λ (s : Summary). s.requests) c.nothing.ensures;
       connected = ap (λ rs. length rs) c.in_ok-no_replies.ensures ∙ length-replicate c.args.connections [];
+      short = none_within c.args.connections c.in_ok-no_replies.field-0.items c.in_ok-no_replies.ensures;
       tallied = at_first c.args.config.now programs c.args.connections c.in_ok-no_replies.field-0.items c.nothing.result c.in_ok-no_replies.ensures c.nothing.ensures;
       answered = of_zipped (IsJobOf tenants programs) (IsAnswerTo quantum) (IsAnswerFor tenants programs quantum) (map decided_seen c.args.decided.items) jobs c.from_vec-answers.result.items
-          (λ route body job answer. answers_for tenants programs quantum route body job answer) c.in_ok-awaited.ensures.jobs laid;
+          (λ entry job answer. answers_for tenants programs quantum entry job answer) c.in_ok-awaited.ensures.jobs laid;
     }
 
 pub serve_next-requires-clause-servable : goal.serve_next-requires-clause-servable
@@ -123,6 +125,9 @@ loop-item-preserved g c =
       is_finite = tt;
       small = c.in_ok-serve_next.ensures.small;
       counted = omega (arith, ap (λ (s : Summary). s.requests) next.summary_is, length_push done item, length-map c.loop-item.yielded awaited_seen, length_push c.loop-item.yielded c.in-Some.item);
+      short = wider (length c.loop-item.yielded * 66048 + 66048) (length (c.loop-item.yielded ++ c.in-Some.item ∷ []) * 66048) c.serve_next.new.tally.replies.items
+          (omega (arith, length_push c.loop-item.yielded c.in-Some.item))
+          (c.in_ok-serve_next.ensures.short (length c.loop-item.yielded * 66048) c.loop-item.invariant.short);
       connected = c.in_ok-serve_next.ensures.counted ∙ c.loop-item.invariant.connected;
       tallied = subst (λ (ds : List Decided). IsTallied c.args.config.now programs ds c.serve_next.new.tally.replies.items c.serve_next.new.tally.summary) (sym seen) next;
       answered = subst (λ (answers : List AnswerView). AreAnswersFor tenants programs quantum (drop (length (c.loop-item.yielded ++ c.in-Some.item ∷ [])) items) answers) (sym {A = List AnswerView} c.in_ok-serve_next.ensures.left) left.1;

@@ -9,7 +9,7 @@ import struct
 import sys
 
 from lib import tables
-from lib.recordings import BEGIN, CLOSE, MAGIC, MOST_CONNECTIONS, PIECE, answer, begin, close, piece, recording
+from lib.recordings import BEGIN, MAGIC, MOST_CONNECTIONS, PIECE, CLOSE, answer, begin, close, piece, recording
 
 # ---- the cases: a name, the number of tenants, the bytes
 

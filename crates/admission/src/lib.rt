@@ -9,4 +9,3 @@ pub mod laws;
 mod meters;
 
 pub use meters::{Admission, Meter};
-

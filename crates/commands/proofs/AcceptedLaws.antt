@@ -40,12 +40,16 @@ pub answered_are : (r : ReplayWords) (files : Files) (e : Ended)
     → ((file : List ℕ) → files r.recording_name ≡ Some file → AreBytes file) → AnswersReplay r files e
     → (c : Configuration) × (programs : List Program) × (records : List Record) × AreAccepted r files c programs records
 answered_are r files e read bytes a =
-    let held = a.files_are.recorded in
-    (a.config, a.programs, a.records, record {
-      configured = a.files_are.ready.held;
-      served = a.files_are.ready.served;
-      recording = held.file;
-      holds = held.holds;
-      spelt = read (length a.config.tenants) held.file a.records (bytes held.file held.holds) held.accepted;
-      few = a.files_are.few;
-    })
+    let held = a.files_are.recorded in (
+      a.config,
+      a.programs,
+      a.records,
+      record {
+        configured = a.files_are.ready.held;
+        served = a.files_are.ready.served;
+        recording = held.file;
+        holds = held.holds;
+        spelt = read (length a.config.tenants) held.file a.records (bytes held.file held.holds) held.accepted;
+        few = a.files_are.few;
+      },
+    )

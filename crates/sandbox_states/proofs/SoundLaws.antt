@@ -80,7 +80,7 @@ started_is p p' same place deadline budget streams v v' job berth seen fresh on 
     let there : v' ≡ fresh_view p berth.pages = begun ∙ ap (λ (x : Program). fresh_view x v.pages) same ∙ ap (λ (x : View). fresh_view p x.pages) on in
     let whole : 0 + budget ≡ budget = omega arith in
     begins_as place deadline budget v'.pages berth.pages (request_of p streams (0 + budget)) (request_of p streams budget) v' (fresh_view p berth.pages) streams (unused streams.body)
-        (ap (λ (x : View). x.pages) there) (ap (λ (b : ℕ). request_of p streams b) whole) there fresh
+    (ap (λ (x : View). x.pages) there) (ap (λ (b : ℕ). request_of p streams b) whole) there fresh
     ∙ ap (λ (j : AdmittedView). started j berth) seen
 
 -- A turn.

@@ -28,4 +28,3 @@ pub use reading::read_config;
 pub use refusals::Refusal;
 pub use routers::Routes;
 pub use tenants::{Route, Tenant};
-

@@ -1,5 +1,5 @@
 -- The head of a request of the load is one by the grammar, and what is read from it.
-use Rattle.std.proofs.Common.{◌≡◌, ℕ, zero, suc, ◌<◌, ◌≤◌, Bool, true, false, ◌&&◌, nat_lt, nat_le, if◌then◌else◌, List, [], ◌∷◌, ◌++◌, length, reverse, codes, Option, Some, Result, Ok, IsUtf8, refl, sym, ap, ◌∙◌, arith, append_assoc, append-nil, length-append, le-leb, lt-ltb}
+use Rattle.std.proofs.Common.{◌≡◌, ℕ, zero, suc, ◌<◌, ◌≤◌, Bool, true, false, ◌&&◌, nat_lt, if◌then◌else◌, List, [], ◌∷◌, ◌++◌, length, reverse, codes, Some, Result, Ok, IsUtf8, refl, sym, ap, ◌∙◌, arith, append_assoc, append-nil, length-append, le-leb, lt-ltb}
 use Rattle.std.specs.List.{list_all}
 use Rattle.std.specs.Char.{is_ascii_digit, digit_value, encode_utf8}
 use Rattle.std.specs.Str.{chars, is_utf8}
@@ -15,7 +15,7 @@ use Rattle.http1.specs.Text.{eq_ignore_case}
 use Rattle.http_items.specs.declared.methods.Method.TheVariants.{Post}
 use Rattle.http_items.specs.declared.refusals.Refusal.{Refusal}
 use Rattle.http_items.specs.Heads.{head_in}
-use Rattle.http_items.specs.Headings.{Heading, heading_of, most_body, size_within, told_size, Serve, Opening, Awaits, opening_with, opening_of}
+use Rattle.http_items.specs.Headings.{Heading, heading_of, most_body, size_within, told_size, Serve, Awaits, opening_with, opening_of}
 use Rattle.http_items.specs.Targets.{path_of}
 use Rattle.http_items.proofs.FrontLaws.{head_in_finds}
 use Rattle.generated_load.specs.Requests.{path_at}

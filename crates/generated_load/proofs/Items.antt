@@ -1,5 +1,5 @@
 -- A request of the load is one item, and what is behind it is left as it is.
-use Rattle.std.proofs.Common.{◌≡◌, ℕ, ◌%◌, ◌/◌, ◌<◌, ◌≤◌, Bool, true, false, if◌then◌else◌, List, [], ◌∷◌, ◌++◌, length, take, drop, decimal, Option, Some, refl, sym, ap, ap₂, ◌∙◌, arith, append-nil, length-append}
+use Rattle.std.proofs.Common.{◌≡◌, ℕ, ◌%◌, ◌/◌, ◌<◌, ◌≤◌, Bool, true, List, [], ◌∷◌, ◌++◌, length, decimal, Option, refl, sym, ap, ap₂, ◌∙◌, arith, length-append}
 use Rattle.std.specs.List.{list_all}
 use Rattle.std.specs.Char.{is_ascii_digit}
 use Rattle.std.specs.Str.Parse.{digits_value}
@@ -10,11 +10,11 @@ use Rattle.std.proofs.lemmas.Nat.{mod_below}
 use Rattle.httparse.specs.Grammar.{RequestHead}
 use Rattle.http_items.specs.declared.methods.Method.TheVariants.{Post}
 use Rattle.http_items.specs.Headings.{most_body, Serve, Opening}
-use Rattle.http_items.specs.Items.{Heard, Asked, Front, Gives, opened, front_with, front, onward, items, items_upto}
+use Rattle.http_items.specs.Items.{Asked, Front, Gives, opened, front_with, front, onward, items, items_upto}
 use Rattle.http_items.proofs.ItemLaws.{gathered_whole, items_step}
 use Rattle.generated_load.specs.Requests.{path_at, body_size, body_byte, body_of, request_of}
 use Rattle.generated_load.specs.Asked.{asked_by}
-use Rattle.generated_load.proofs.Heads.{IsPath, known_path, digits_are_ascii, text_with, head_with, head_found, head_opens}
+use Rattle.generated_load.proofs.Heads.{IsPath, known_path, digits_are_ascii, text_with, head_found, head_opens}
 
 read_with : (path digits body rest : List ℕ) (ended : Bool) → IsPath path → 0 < length digits → list_all is_ascii_digit digits ≡ true → length digits ≤ 4 →
     digits_value 10 digits ≡ length body → length body ≤ most_body → front ((text_with path digits ++ body) ++ rest) ended ≡ Gives (Asked Post path true body) rest

@@ -1,5 +1,5 @@
 -- What is accepted as a configuration is in range, value by value, and keeps what is looked at over the whole.
-use Rattle.std.proofs.Common.{◌≡◌, ℕ, suc, ◌≤◌, Bool, true, false, List, [], ◌∷◌, length, Option, None, Some, option_and_then, Result, Ok, Err, if◌then◌else◌, nat_lt, codes, refl, ap, subst, arith}
+use Rattle.std.proofs.Common.{◌≡◌, ℕ, suc, ◌≤◌, Bool, true, false, List, ◌∷◌, length, Option, None, Some, option_and_then, Result, Ok, Err, if◌then◌else◌, nat_lt, codes, refl, ap, subst, arith}
 use Rattle.std.specs.Prelude.{IfOk}
 use Rattle.std.specs.List.{AllByRecursion, list_any, list_all}
 use Rattle.std.proofs.lemmas.Bool.Decides.{nat_tests}
@@ -11,7 +11,7 @@ use Rattle.serve_config.specs.declared.refusals.Refusal.{Refusal}
 use Rattle.serve_config.specs.declared.refusals.Refusal.TheVariants.{MissingKey, WrongKind, OutOfRange, DoubleName, DoubleRoute, BadRoute, RegionTooLarge, BadContentType}
 use Rattle.serve_config.specs.declared.tenants.Route.{Route}
 use Rattle.serve_config.specs.declared.tenants.Tenant.{Tenant}
-use Rattle.serve_config.specs.Steps.{go_on, or_refuse, first_refusal}
+use Rattle.serve_config.specs.Steps.{go_on, or_refuse}
 use Rattle.serve_config.specs.Letters.{is_name_byte}
 use Rattle.serve_config.specs.Kinds.{within, number, text, with_name_bytes, name, policy, each_of, array, array_of, object_of, required, or_standard, optional}
 use Rattle.serve_config.specs.Objects.{route_keys, tenant_keys, top_keys}

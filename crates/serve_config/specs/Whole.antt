@@ -1,5 +1,5 @@
 -- What a configuration keeps as a whole, behind the ranges of its values: none of the faults that are looked at.
-use Rattle.std.specs.Prelude.{◌≡◌, ◌≤◌, ℕ, false}
+use Rattle.std.specs.Prelude.{◌≡◌, ◌≤◌, false}
 use Rattle.std.specs.List.{list_any}
 use Rattle.serve_config.specs.Configuration.{Configuration}
 use Rattle.serve_config.specs.Overview.{route_count, has_double, are_rivals, some_route, has_bad_path, has_one_path, has_bad_content_type, is_too_large}

@@ -16,7 +16,6 @@ import math
 import os
 import random
 import shutil
-import subprocess
 import sys
 import tempfile
 
@@ -24,11 +23,10 @@ TOP = os.path.join(os.path.dirname(os.path.abspath(__file__)), "..")
 sys.path.insert(0, os.path.join(TOP, "tests"))
 
 import examples  # noqa: E402
-import running  # noqa: E402
-import interpreter  # noqa: E402
-from module_reader import HEADER  # noqa: E402
-from module_validator import I32, Bytes, decode  # noqa: E402
-from module_writer import body, number, section, signed, text, vector  # noqa: E402
+from lib import interpreter, running  # noqa: E402
+from lib.module_reader import HEADER  # noqa: E402
+from lib.module_validator import I32, Bytes, decode  # noqa: E402
+from lib.module_writer import body, number, section, signed, text, vector  # noqa: E402
 
 PROGRAM = running.PROGRAM
 INTERP = shutil.which("wasm-interp")
@@ -156,14 +154,10 @@ def alone(data, request):
 
 def seconds(words, folder):
     """The processor time that a command takes, and what it wrote."""
-    with open(os.path.join(folder, "out"), "wb+") as out, open(os.path.join(folder, "notes"), "wb+") as notes:
-        child = subprocess.Popen(words, cwd=folder, stdout=out, stderr=notes)
-        _, status, usage = os.wait4(child.pid, 0)
-        out.seek(0), notes.seek(0)
-        said, noted = out.read(), notes.read().decode()
+    usage, status, said, noted = running.measured(words, folder)
     if status != 0:
         sys.exit("%s: %r" % (" ".join(words), noted[:300]))
-    return usage.ru_utime + usage.ru_stime, said, noted
+    return usage.ru_utime + usage.ru_stime, said, noted.decode()
 
 
 def commands(name):

@@ -1,7 +1,7 @@
 #!/usr/bin/env python3
 """Times the built program `http_table` on streams of 64 MiB and of half that size.
 
-    http_front.py        the program has to be built (`rt check` in crates/http_table does it)
+    http_front.py        the program has to be built (`rt run` in crates/http_table does it)
 
 For each kind of stream it prints the bytes a second and how the time of the whole is to that of half:
 where the work is linear, the ratio is 2. A time is the least of several runs.
@@ -33,7 +33,7 @@ def seconds(count, step, piece, items):
     times = []
     for _ in range(RUNS):
         start = time.monotonic()
-        done = subprocess.run([PROGRAM], input=line.encode(), capture_output=True, check=True)
+        done = subprocess.run([PROGRAM], input=line.encode(), capture_output=True, check=True, timeout=600)
         times.append(time.monotonic() - start)
         assert done.stdout == b" %d\n" % items, done.stdout[:100]
     return min(times)

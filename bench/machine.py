@@ -11,17 +11,15 @@ Each loop goes round so many times (2,000,000), and runs in both programs altern
 import math
 import os
 import shutil
-import subprocess
 import sys
 import tempfile
 
 TOP = os.path.join(os.path.dirname(os.path.abspath(__file__)), "..")
 sys.path.insert(0, os.path.join(TOP, "tests"))
 
-from module_writer import body, module, signed, text  # noqa: E402
+from lib.module_writer import body, module, signed, text  # noqa: E402
+from lib.running import PROGRAM, build, measured  # noqa: E402
 
-SCRIPT = os.path.join(TOP, "sledge")
-PROGRAM = os.path.join(TOP, "crates", "sledge", "out", "sledge")
 INTERP = shutil.which("wasm-interp")
 START = ["06 5F 73 74 61 72 74 00 00"]
 BUDGET = 2**40
@@ -49,11 +47,8 @@ LOOPS = [
 
 
 def seconds(words, folder):
-    with subprocess.Popen(words, cwd=folder, stdout=subprocess.DEVNULL, stderr=subprocess.PIPE) as done:
-        said = done.stderr.read()
-        _, status, used = os.wait4(done.pid, 0)
-        done.returncode = os.waitstatus_to_exitcode(status)
-    if done.returncode != 0:
+    used, status, _, said = measured(words, folder)
+    if status != 0:
         sys.exit("%s: %r" % (" ".join(words), said[:300]))
     return used.ru_utime + used.ru_stime, said.decode()
 
@@ -76,7 +71,7 @@ def programs_of(name):
 
 def main(words):
     rounds, turns = [int(word) for word in words + ["5", "2000000"][len(words) :]]
-    subprocess.run([SCRIPT, "--help"], check=True, stdout=subprocess.DEVNULL)
+    build()
     ratios = []
     with tempfile.TemporaryDirectory() as folder:
         for name, data in [("empty", b"")] + [("least", module(exports=START, bodies=[""]))]:

@@ -11,13 +11,13 @@ run: each run has to end with `module 53 0 0` and exit status 5.
 """
 
 import os
-import subprocess
 import sys
 import tempfile
 
-TOP = os.path.join(os.path.dirname(os.path.abspath(__file__)), "..")
-SCRIPT = os.path.join(TOP, "sledge")
-PROGRAM = os.path.join(TOP, "crates", "sledge", "out", "sledge")
+sys.path.insert(0, os.path.join(os.path.dirname(os.path.abspath(__file__)), "..", "tests"))
+
+from lib.running import PROGRAM, build, measured  # noqa: E402
+
 # The least of few runs scatters: the longer a run is, the more seldom nothing else on the machine disturbs it.
 RUNS = 60
 MOST_BYTES = 4 << 20
@@ -86,11 +86,8 @@ def used(folder, content):
     with open(os.path.join(folder, "module"), "wb") as file:
         file.write(content)
     words = [PROGRAM, "invoke", "module", "body", "10"]
-    with subprocess.Popen(words, cwd=folder, stdout=subprocess.DEVNULL, stderr=subprocess.PIPE) as run:
-        notes = run.stderr.read()
-        _, status, usage = os.wait4(run.pid, 0)
-        run.returncode = os.waitstatus_to_exitcode(status)
-    assert (run.returncode, notes) == (5, b"module 53 0 0\n"), (run.returncode, notes)
+    usage, status, _, notes = measured(words, folder)
+    assert (status, notes) == (5, b"module 53 0 0\n"), (status, notes)
     return (usage.ru_utime + usage.ru_stime) * 1000, usage.ru_maxrss / 1024
 
 
@@ -113,7 +110,7 @@ def resident_memory(folder, content):
 
 
 def main():
-    subprocess.run([SCRIPT, "--version"], stdout=subprocess.DEVNULL, check=True)
+    build()
     with tempfile.TemporaryDirectory() as folder:
         with open(os.path.join(folder, "body"), "wb"):
             pass

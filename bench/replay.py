@@ -17,9 +17,9 @@ import tempfile
 
 sys.path.insert(0, os.path.join(os.path.dirname(os.path.abspath(__file__)), "..", "tests"))
 
-from recordings import begin, piece, recording  # noqa: E402
-from replays import MODULES, Route, Tenant, configuration, request  # noqa: E402
-from running import PROGRAM, build  # noqa: E402
+from lib.recordings import begin, piece, recording  # noqa: E402
+from lib.replays import MODULES, Route, Tenant, configuration, request  # noqa: E402
+from lib.running import PROGRAM, build  # noqa: E402
 
 MOST = 4096
 ROUTES = [Route("/nil", "nil", 10, 1, 0), Route("/echo", "echo", 100000, 2, 0)]
@@ -37,7 +37,7 @@ def seconds(folder, repeats):
     least = float("inf")
     for _ in range(repeats):
         before = used()
-        subprocess.run([PROGRAM, "replay", "config", "recording"], cwd=folder, check=True, stdout=subprocess.DEVNULL, stderr=subprocess.DEVNULL)
+        subprocess.run([PROGRAM, "replay", "config", "recording"], cwd=folder, check=True, stdout=subprocess.DEVNULL, stderr=subprocess.DEVNULL, timeout=600)
         least = min(least, used() - before)
     return least
 

@@ -13,9 +13,10 @@ import resource
 import subprocess
 import sys
 
-TOP = os.path.join(os.path.dirname(os.path.abspath(__file__)), "..")
-SCRIPT = os.path.join(TOP, "sledge")
-PROGRAM = os.path.join(TOP, "crates", "sledge", "out", "sledge")
+sys.path.insert(0, os.path.join(os.path.dirname(os.path.abspath(__file__)), "..", "tests"))
+
+from lib.running import PROGRAM, build  # noqa: E402
+
 START = 1
 
 
@@ -29,7 +30,7 @@ def seconds(count, rounds):
     times = []
     for _ in range(rounds):
         begun = spent()
-        done = subprocess.run([PROGRAM, "soak", str(START), str(count)], capture_output=True)
+        done = subprocess.run([PROGRAM, "soak", str(START), str(count)], capture_output=True, timeout=600)
         times.append(spent() - begun)
         if done.returncode != 0 or not done.stdout.startswith(b"requests %d " % count):
             sys.exit("soak %d %d: %r" % (START, count, done))
@@ -38,7 +39,7 @@ def seconds(count, rounds):
 
 def main(words):
     rounds = int(words[0]) if words else 15
-    subprocess.run([SCRIPT, "--help"], check=True, stdout=subprocess.DEVNULL)
+    build()
     none = seconds(1, rounds)
     times = [seconds(count, rounds) - none for count in (1000, 4000)]
     for count, taken in zip((1000, 4000), times):

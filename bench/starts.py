@@ -18,7 +18,7 @@ import tempfile
 TOP = os.path.join(os.path.dirname(os.path.abspath(__file__)), "..")
 sys.path.insert(0, os.path.join(TOP, "tests"))
 
-from module_writer import module, number  # noqa: E402
+from lib.module_writer import module, number  # noqa: E402
 
 PROGRAM = os.path.join(TOP, "crates", "turns_table", "out", "turns_table")
 START = ["06 5F 73 74 61 72 74 00 00"]
@@ -38,7 +38,7 @@ def seconds(folder, data, pages, count):
     least = float("inf")
     for _ in range(RUNS):
         begun = used()
-        done = subprocess.run([PROGRAM], cwd=folder, capture_output=True, check=True)
+        done = subprocess.run([PROGRAM], cwd=folder, capture_output=True, check=True, timeout=600)
         least = min(least, used() - begun)
         assert done.stdout == b"answered %d\n" % count, done.stdout[:100]
     return least

@@ -19,7 +19,7 @@ import sys
 import tempfile
 
 import read_module
-from read_module import CONST_AND_DROP, END, HEADER, MOST_BYTES, PROGRAM, ROOM, SCRIPT, functions, number, section, sized
+from read_module import CONST_AND_DROP, END, HEADER, MOST_BYTES, PROGRAM, ROOM, build, functions, number, section, sized
 
 GREATEST_RATIO = 2.3
 NO_LOCALS = b"\0"
@@ -110,7 +110,7 @@ def instructions(folder, content):
     with open(os.path.join(folder, "module"), "wb") as file:
         file.write(content)
     words = ["valgrind", "--tool=callgrind", "--callgrind-out-file=/dev/null", PROGRAM, "invoke", "module", "body", "10"]
-    run = subprocess.run(words, cwd=folder, stdout=subprocess.DEVNULL, stderr=subprocess.PIPE, text=True)
+    run = subprocess.run(words, cwd=folder, stdout=subprocess.DEVNULL, stderr=subprocess.PIPE, text=True, timeout=1800)
     assert run.returncode == 5 and "module 53 0 0" in run.stderr, (run.returncode, run.stderr)
     return int(re.search(r"Collected : (\d+)", run.stderr).group(1))
 
@@ -123,7 +123,7 @@ def counted(folder, half, whole):
 
 def main(words):
     measured, unit = (counted, "million instructions") if words == ["--instructions"] else (read_module.compared, "ms")
-    subprocess.run([SCRIPT, "--version"], stdout=subprocess.DEVNULL, check=True)
+    build()
     failed = 0
     with tempfile.TemporaryDirectory() as folder:
         with open(f"{folder}/body", "wb"):

@@ -5,11 +5,12 @@ The spellings and what they mean are those of WebAssembly Core 1.0, section 5.4,
 the numbers of refusals and the limits are those of docs/FORMATS.md. Nothing here is taken from what the
 program prints.
 
-    body_table.py STDIN STDOUT            compares the two files with the tables
-    body_table.py --write STDIN STDOUT    writes the tables there
+    body_table.py [check|make]      compares crates/body_table/stdin and stdout with the tables, or writes them (tests/lib/tables.py)
 """
 
 import sys
+
+from lib import tables
 
 TEXTS = {
     1: "the bytes end within an item",
@@ -109,6 +110,14 @@ BODIES = [
             locals="I64, I64",
         ),
     ),
+    (
+        "01027e027f0e0101000b0b",
+        body(
+            "Block { result: Some(I32), end: 2 }, BrTable { from: 0, count: 1 }, End, End",
+            locals="I64, I64",
+            targets="1, 0",
+        ),
+    ),
     ("000b", body("End")),
     ("000e00020b", alone("BrTable { from: 0, count: 0 }", "2")),
     ("000e020100030e0080010b", body("BrTable { from: 0, count: 2 }, BrTable { from: 3, count: 0 }, End", targets="1, 0, 3, 128")),
@@ -126,6 +135,8 @@ REFUSALS = [
     ("000e0100", 1, 4),
     ("001100", 1, 3),
     ("002080", 1, 3),
+    # A float operator behind the count of locals.
+    ("00920b", 5, 1),
     ("002802", 1, 3),
     ("003f", 1, 2),
     ("004180", 1, 3),
@@ -310,22 +321,10 @@ def rows():
     yield "000e8020" + "00" * 4097 + "0b", "[0, 2, 4097] Some(BrTable { from: 0, count: 4096 })"
 
 
-def main():
-    words = sys.argv[1:]
-    tables = ["".join(line + "\n" for line in column) for column in zip(*rows())]
-    if words[:1] == ["--write"]:
-        for path, table in zip(words[1:], tables):
-            with open(path, "w") as stored:
-                stored.write(table)
-        return 0
-    for path, table in zip(words, tables):
-        with open(path) as stored:
-            if stored.read() != table:
-                print("body_table: %s is not what the tables make" % path)
-                return 1
-    print("body_table: %d bodies agree" % len(list(rows())))
-    return 0
+def files():
+    stdin, stdout = zip(*rows())
+    return {"stdin": tables.text(stdin), "stdout": tables.text(stdout)}
 
 
 if __name__ == "__main__":
-    sys.exit(main())
+    sys.exit(tables.main("body_table", files, sys.argv[1:]))

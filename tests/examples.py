@@ -16,9 +16,8 @@ import random
 import subprocess
 import sys
 
-import interpreter
-import module_validator
-from running import SCRIPT, TOP, Case, compare
+from lib import interpreter, module_validator
+from lib.running import SCRIPT, TOP, Case, compare
 
 # ---- what the functions are for
 

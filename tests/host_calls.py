@@ -10,57 +10,10 @@ What must come of it is computed by the interpreter in Python.
 import random
 import sys
 
-from interpreter import PAGE
-from module_writer import body, module, number, signed, text
-from running import Case, compare
-
-WASI = text("16") + b"wasi_snapshot_preview1"
-TYPES = ["60 04 7F 7F 7F 7F 01 7F", "60 01 7F 00", "60 00 00"]
-IMPORTS = [WASI + b"\x07fd_read\x00\x00", WASI + b"\x08fd_write\x00\x00", WASI + b"\x09proc_exit\x00\x01"]
-READ, WRITE, EXIT, FIRST = range(4)
-START = [b"\x06_start\x00\x03"]
-ANSWER = PAGE - 4
-
-
-def const(value):
-    return b"\x41" + signed(value - (1 << 32) if value >> 31 else value)
-
-
-def call(function, *arguments):
-    return b"".join(map(const, arguments)) + b"\x10" + number(function)
-
-
-def store(at, value):
-    return const(at) + const(value) + text("36 00 00")
-
-
-def laid(at, buffers):
-    """Stores an array of iovecs."""
-    return b"".join(store(at + 8 * place + 4 * part, pair[part]) for place, pair in enumerate(buffers) for part in (0, 1))
-
-
-def told(code):
-    """Stores the result of a call, and writes it into the reply by an iovec behind all else."""
-    return const(ANSWER) + code + text("36 00 00") + laid(ANSWER - 8, [(ANSWER, 4)]) + call(WRITE, 1, ANSWER - 8, 1, ANSWER - 12) + b"\x1a"
-
-
-def shown(at, count):
-    """Writes a part of the memory into the reply."""
-    return laid(ANSWER - 8, [(at, count)]) + call(WRITE, 1, ANSWER - 8, 1, ANSWER - 12) + b"\x1a"
-
-
-def program(code, memories=("00 01",), segments=(), functions=("02",), more=(), **parts):
-    return module(types=TYPES, imports=IMPORTS, functions=list(functions), memories=list(memories), exports=START, bodies=[body(code), *more], segments=list(segments), **parts)
-
-
-def expects(code, errno):
-    return code + const(errno) + text("46 45 04 40 00 0B")
-
-
-def filled(count):
-    """Writes so many bytes of the memory into the reply."""
-    return laid(1024, [(0, count)]) + call(WRITE, 1, 1024, 1, 1032) + b"\x1a"
-
+from lib.host_programs import EXIT, READ, WRITE, call, const, expects, filled, laid, program, shown, through, told
+from lib.interpreter import PAGE
+from lib.module_writer import body, number, signed, text
+from lib.running import Case, compare
 
 # a name, the code, and the error number that the call gives; the place of the count is 2,048 where nothing else is said
 def rows():
@@ -109,6 +62,7 @@ def by_hand():
     yield Case("read over the iovecs and the count", program(over), bytes(range(1, 30)))
     yield Case("write of what overlaps", program(laid(0, [(0, 16), (4, 8), (0, 16)]) + told(call(WRITE, 1, 0, 3, 0)) + shown(0, 32)))
     yield Case("a zero read", program(laid(0, [(8, 0)]) + told(call(READ, 0, 0, 1, 2048)) + shown(2048, 4)), b"abc")
+    yield Case("a start function that is _start itself writes twice", program(filled(3), start=b"\x03"))
     for memories in ([], ["00 00"]):
         for function, descriptor in ((READ, 0), (WRITE, 1)):
             yield Case("no memory", program(expects(call(function, descriptor, 0, 0, 0), 21), memories=memories))
@@ -119,8 +73,7 @@ def by_hand():
         table = {"tables": ["70 00 01"], "elements": ["00 41 00 0B 01 02"]}
         yield Case("exit with %d through the table" % code, program(const(code) + const(0) + text("11 01 00 00"), **table))
     table = {"tables": ["70 00 01"], "elements": ["00 41 00 0B 01 01"]}
-    through = laid(0, [(1024, 70)]) + told(b"".join(map(const, (1, 0, 1, 8, 0))) + text("11 00 00"))
-    yield Case("write through the table", program(through, **table))
+    yield Case("write through the table", program(laid(0, [(1024, 70)]) + told(through(0, 0, 1, 0, 1, 8)), **table))
     yield Case("a call of another type through the table", program(const(0) + const(0) + text("11 01 00"), **table))
 
 
@@ -132,6 +85,14 @@ def budgets():
     for errno in (expects(call(WRITE, 7, 0, 1, 8), 8), call(EXIT, 3)):
         for budget in range(0, 12):
             yield Case("a call that costs 1", program(errno), b"", budget)
+    # The same calls through the table, which has the three functions: the price is the function's alone.
+    table = {"tables": ["70 00 03"], "elements": ["00 41 00 0B 03 00 01 02"]}
+    for function, data, parts in ((READ, bytes(128), (0, 0, 1, 2048)), (WRITE, b"", (1, 0, 1, 2048)), (WRITE, b"", (7, 0, 1, 2048))):
+        code = laid(0, [(4096, 128)]) + through(function, 0, *parts) + b"\x1a"
+        for budget in range(4, 20):
+            yield Case("call_indirect of function %d of the host" % function, program(code, **table), data, budget)
+    for budget in range(0, 6):
+        yield Case("call_indirect of proc_exit", program(through(EXIT, 1, 3), **table), b"", budget)
 
 
 def at_random(rng):

@@ -1,101 +1,15 @@
 #!/usr/bin/env python3
 """The integer operators of WebAssembly Core 1.0, section 4.3.2, at boundary operands.
 
-Prints what `crates/integer_table` must print. Nothing here is taken from the repository's code:
-each operator is computed from its definition in the standard, on Python's unbounded integers.
+    integer_table.py [check|make]      compares crates/integer_table/stdout with the table, or writes it (tests/lib/tables.py)
 
-    integer_table.py            prints the table
-    integer_table.py FILE       compares it with FILE, and says where they differ
+What the table has, `tests/lib/integers.py` computes from the standard.
 """
 
 import sys
 
-
-def signed(n, bits):
-    return n - (1 << bits) if n >> (bits - 1) else n
-
-
-def truncated_quotient(a, b):
-    quotient = abs(a) // abs(b)
-    return quotient if (a < 0) == (b < 0) else -quotient
-
-
-def div_s(a, b, bits):
-    if b == 0:
-        return "by-zero"
-    quotient = truncated_quotient(signed(a, bits), signed(b, bits))
-    return "overflow" if quotient == 1 << (bits - 1) else quotient % (1 << bits)
-
-
-def rem_s(a, b, bits):
-    if b == 0:
-        return "by-zero"
-    x, y = signed(a, bits), signed(b, bits)
-    return (x - y * truncated_quotient(x, y)) % (1 << bits)
-
-
-def binary_digits(n, bits):
-    return format(n, "0%db" % bits)
-
-
-def rotated(a, count, bits):
-    digits = binary_digits(a, bits)
-    count %= bits
-    return int(digits[count:] + digits[:count], 2)
-
-
-RELATIONS = [
-    lambda a, b, n: a == b,
-    lambda a, b, n: a != b,
-    lambda a, b, n: signed(a, n) < signed(b, n),
-    lambda a, b, n: a < b,
-    lambda a, b, n: signed(a, n) > signed(b, n),
-    lambda a, b, n: a > b,
-    lambda a, b, n: signed(a, n) <= signed(b, n),
-    lambda a, b, n: a <= b,
-    lambda a, b, n: signed(a, n) >= signed(b, n),
-    lambda a, b, n: a >= b,
-]
-
-COUNTS = [
-    lambda a, n: n - len(binary_digits(a, n).lstrip("0")),
-    lambda a, n: n - len(binary_digits(a, n).rstrip("0")),
-    lambda a, n: binary_digits(a, n).count("1"),
-]
-
-ARITHMETIC = [
-    lambda a, b, n: (a + b) % (1 << n),
-    lambda a, b, n: (a - b) % (1 << n),
-    lambda a, b, n: (a * b) % (1 << n),
-    div_s,
-    lambda a, b, n: "by-zero" if b == 0 else a // b,
-    rem_s,
-    lambda a, b, n: "by-zero" if b == 0 else a % b,
-    lambda a, b, n: a & b,
-    lambda a, b, n: a | b,
-    lambda a, b, n: a ^ b,
-    lambda a, b, n: (a << b % n) % (1 << n),
-    lambda a, b, n: (signed(a, n) >> b % n) % (1 << n),
-    lambda a, b, n: a >> b % n,
-    lambda a, b, n: rotated(a, b, n),
-    lambda a, b, n: rotated(a, n - b % n, n),
-]
-
-
-def operators():
-    """Each operator's byte, its function, how many bits its operands have, and whether it takes one."""
-    for bits, test, count in ((32, 0x45, 0x67), (64, 0x50, 0x79)):
-        yield test, lambda a, n: a == 0, bits, True
-        for place, relation in enumerate(RELATIONS):
-            yield test + 1 + place, relation, bits, False
-        for place, counted in enumerate(COUNTS):
-            yield count + place, counted, bits, True
-        for place, computed in enumerate(ARITHMETIC):
-            yield count + 3 + place, computed, bits, False
-    yield 0xA7, lambda a, n: a % (1 << 32), 64, True
-    yield 0xAC, lambda a, n: signed(a, 32) % (1 << 64), 32, True
-    yield 0xAD, lambda a, n: a, 32, True
-
+from lib import tables
+from lib.integers import operands, operators
 
 # Single rows which a reader can check by hand: the operator's byte, its operands, and what it gives. The computation above is held to them.
 BY_HAND = [
@@ -148,12 +62,6 @@ def wrong_row():
     return None
 
 
-def operands(bits):
-    """0, 1, -1, the least, the greatest, the least's neighbours, and counts about both widths."""
-    least = 1 << (bits - 1)
-    return [0, 1, 2, 31, 32, 33, 63, 64, 65, least - 2, least - 1, least, least + 1, 2 * least - 2, 2 * least - 1]
-
-
 def shown(result):
     return result if isinstance(result, str) else format(int(result), "x")
 
@@ -168,27 +76,11 @@ def table():
             yield "%x %x: %s" % (byte, a, " ".join(shown(result) for result in results))
 
 
-def main():
+def files():
     wrong = wrong_row()
-    if wrong is not None:
-        print("integer_table: the operator %x does not give what was computed by hand" % wrong)
-        return 1
-    lines = list(table())
-    if len(sys.argv) < 2:
-        print("\n".join(lines))
-        return 0
-    with open(sys.argv[1]) as stored:
-        found = stored.read().splitlines()
-    for number, (line, other) in enumerate(zip(lines, found), 1):
-        if line != other:
-            print("integer_table: line %d of %s has\n  %s\nand the standard gives\n  %s" % (number, sys.argv[1], other, line))
-            return 1
-    if len(lines) != len(found):
-        print("integer_table: %s has %d lines, and the standard gives %d" % (sys.argv[1], len(found), len(lines)))
-        return 1
-    print("integer_table: %d lines agree" % len(lines))
-    return 0
+    assert wrong is None, "the operator %x does not give what was computed by hand" % wrong
+    return {"stdout": tables.text(table())}
 
 
 if __name__ == "__main__":
-    sys.exit(main())
+    sys.exit(tables.main("integer_table", files, sys.argv[1:]))

@@ -10,11 +10,9 @@ is linked is run.
 import sys
 import tempfile
 
-import interpreter
-import module_reader
-import module_validator
-from module_writer import module, number, text
-from running import Case, build, ran
+from lib import interpreter, module_reader, module_validator
+from lib.module_writer import module, number, text
+from lib.running import Case, build, ran
 
 UNKNOWN, TYPE, KIND, NO_START, SHAPE, RANGE, PAGES = 50, 51, 52, 53, 54, 55, 56
 

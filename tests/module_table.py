@@ -5,11 +5,13 @@ The bytes are spelt by hand after WebAssembly Core 1.0, section 5.5, and so is w
 refusals and the limits are those of docs/FORMATS.md. Nothing here is taken from what the program prints. In the
 rows of refusals a place is counted from the file's first byte, so the first section stands at 8.
 
-    module_table.py STDIN STDOUT            compares the two files with the tables
-    module_table.py --write STDIN STDOUT    writes the tables there
+    module_table.py [check|make]      compares crates/module_table/stdin and stdout with the tables, or writes them (tests/lib/tables.py)
 """
 
 import sys
+
+from lib import tables
+from lib.whole_modules import ECHO, ENDLESS, MOST_FRAMES, NOTHING, PAGE_FILLER, UNREACHABLE, ZERO_READER
 
 HEADER = "00 61 73 6D 01 00 00 00"
 
@@ -357,9 +359,41 @@ def long_body(count):
     return f"body: {count} operators; "
 
 
+# Every part once, with custom sections between and behind them.
+EACH_PART = (
+    "01 05 01 60 01 7F 00"
+    "02 07 01 01 6D 01 66 00 00"
+    "03 02 01 00"
+    "04 04 01 70 00 02"
+    "05 04 01 01 01 03"
+    "06 06 01 7E 01 42 7F 0B"
+    "07 0A 01 06 5F 73 74 61 72 74 00 01"
+    "08 01 01"
+    "09 07 01 00 41 00 0B 01 01"
+    "00 03 01 6E FF"
+    "0A 06 01 04 00 20 00 0B"
+    "0B 08 01 00 41 08 0B 02 68 69"
+    "00 04 03 C3 A9 61"
+    "00 06 01 7A 00 0B 0C 0D"
+)
+
 # Sections, and the parts that they make.
 PARTS = [
     ("", ""),
+    (
+        EACH_PART,
+        part("types", function_type(["I32"], None))
+        + part("imports", imported("m", "f", "Function(0)"))
+        + part("functions", 0)
+        + part("tables", limits(2, None))
+        + part("memories", limits(1, 3))
+        + part("globals", global_of("I64", "true", constant("I64", 2**64 - 1)))
+        + part("exports", export("_start", 0, 1))
+        + "start: 1; "
+        + part("elements", element(0, constant("I32", 0), 1))
+        + body("", "LocalGet(0), End", "")
+        + part("segments", segment(0, constant("I32", 8), 104, 105)),
+    ),
     (
         "01 12 04 60 00 00 60 03 7F 7E 7F 01 7E 60 00 01 7F 60 00 00",
         part(
@@ -436,77 +470,27 @@ PARTS = [
     ),
 ]
 
-# Modules that a user would write first, or that a compiler made.
-
-# A function that does nothing.
-NOTHING = (
-    "00 61 73 6D 01 00 00 00 01 04 01 60 00 00 03 02 01 00 07 0A 01 06 5F 73 74 61 72 74 00 00 0A 04 01 02 00 0B"
-)
-
-# One that traps at once.
-TRAP = (
-    "00 61 73 6D 01 00 00 00 01 04 01 60 00 00 03 02 01 00 07 0A 01 06 5F 73 74 61 72 74 00 00 0A 05 01 03 00 00 "
-    "0B"
-)
-
-# One that loops forever.
-LOOP = (
-    "00 61 73 6D 01 00 00 00 01 04 01 60 00 00 03 02 01 00 07 0A 01 06 5F 73 74 61 72 74 00 00 0A 09 01 07 00 03 "
-    "40 0C 00 0B 0B"
-)
-
-# One that calls another one, which calls itself so many times.
-COUNTDOWN = (
-    "00 61 73 6D 01 00 00 00 01 08 02 60 00 00 60 01 7F 00 03 03 02 00 01 07 0A 01 06 5F 73 74 61 72 74 00 00 0A "
-    "18 02 07 00 41 FE 1F 10 01 0B 0E 00 20 00 04 40 20 00 41 01 6B 10 01 0B 0B"
-)
-
-# One that fills a page of memory.
-FILL = (
-    "00 61 73 6D 01 00 00 00 01 04 01 60 00 00 03 02 01 00 05 03 01 00 01 07 0A 01 06 5F 73 74 61 72 74 00 00 0A "
-    "1E 01 1C 01 01 7F 03 40 20 00 41 7F 36 02 00 20 00 41 04 6A 22 00 41 80 80 04 49 0D 00 0B 0B"
-)
-
-# One that a compiler made: it copies what it reads to what it writes, in a loop.
-ECHO = (
-    "00 61 73 6D 01 00 00 00 01 0C 02 60 04 7F 7F 7F 7F 01 7F 60 00 00 02 44 02 16 77 61 73 69 5F 73 6E 61 70 73 "
-    "68 6F 74 5F 70 72 65 76 69 65 77 31 07 66 64 5F 72 65 61 64 00 00 16 77 61 73 69 5F 73 6E 61 70 73 68 6F 74 "
-    "5F 70 72 65 76 69 65 77 31 08 66 64 5F 77 72 69 74 65 00 00 03 02 01 01 05 03 01 00 02 06 08 01 7F 01 41 80 "
-    "88 04 0B 07 13 02 06 6D 65 6D 6F 72 79 02 00 06 5F 73 74 61 72 74 00 02 0A 77 01 75 01 01 7F 23 80 80 80 80 "
-    "00 41 10 6B 22 00 24 80 80 80 80 00 02 40 03 40 20 00 41 80 08 36 02 08 20 00 41 80 08 36 02 0C 41 00 20 00 "
-    "41 08 6A 41 01 20 00 41 04 6A 10 80 80 80 80 00 0D 01 20 00 28 02 04 45 0D 01 20 00 20 00 28 02 04 36 02 0C "
-    "41 01 20 00 41 08 6A 41 01 20 00 41 04 6A 10 81 80 80 80 00 45 0D 00 0B 0B 20 00 41 10 6A 24 80 80 80 80 00 "
-    "0B 00 10 04 6E 61 6D 65 01 09 01 02 06 5F 73 74 61 72 74"
-)
-
-# One that writes 16 bytes of memory that it has not written.
-ZEROS = (
-    "00 61 73 6D 01 00 00 00 01 0C 02 60 04 7F 7F 7F 7F 01 7F 60 00 00 02 23 01 16 77 61 73 69 5F 73 6E 61 70 73 "
-    "68 6F 74 5F 70 72 65 76 69 65 77 31 08 66 64 5F 77 72 69 74 65 00 00 03 02 01 01 05 03 01 00 01 07 0A 01 06 "
-    "5F 73 74 61 72 74 00 01 0A 1E 01 1C 00 41 00 41 80 08 36 02 00 41 00 41 10 36 02 04 41 01 41 00 41 01 41 08 "
-    "10 00 1A 0B"
-)
-
+# Modules that a user would write first, or that a compiler made (tests/lib/whole_modules.py).
 NO_TYPE = part("types", function_type([], None))
 START = part("exports", export("_start", 0, 0))
 CALL_TYPES = part("types", function_type(["I32"] * 4, "I32"), function_type([], None))
 HOST = "wasi_snapshot_preview1"
 
 MODULES = [
-    (NOTHING, NO_TYPE + part("functions", 0) + START + body("", "End", "")),
-    (TRAP, NO_TYPE + part("functions", 0) + START + body("", "Unreachable, End", "")),
-    (LOOP, NO_TYPE + part("functions", 0) + START + long_body(4)),
+    (NOTHING.hex(), NO_TYPE + part("functions", 0) + START + body("", "End", "")),
+    (UNREACHABLE.hex(), NO_TYPE + part("functions", 0) + START + body("", "Unreachable, End", "")),
+    (ENDLESS.hex(), NO_TYPE + part("functions", 0) + START + long_body(4)),
     (
-        COUNTDOWN,
+        MOST_FRAMES.hex(),
         part("types", function_type([], None), function_type(["I32"], None))
         + part("functions", 0, 1)
         + START
         + body("", "ConstI32(4094), Call(1), End", "")
         + long_body(8),
     ),
-    (FILL, NO_TYPE + part("functions", 0) + part("memories", limits(1, None)) + START + long_body(13)),
+    (PAGE_FILLER.hex(), NO_TYPE + part("functions", 0) + part("memories", limits(1, None)) + START + long_body(13)),
     (
-        ECHO,
+        ECHO.hex(),
         CALL_TYPES
         + part("imports", imported(HOST, "fd_read", "Function(0)"), imported(HOST, "fd_write", "Function(0)"))
         + part("functions", 1)
@@ -516,7 +500,7 @@ MODULES = [
         + long_body(49),
     ),
     (
-        ZEROS,
+        ZERO_READER.hex(),
         CALL_TYPES
         + part("imports", imported(HOST, "fd_write", "Function(0)"))
         + part("functions", 1)
@@ -542,23 +526,10 @@ def rows():
         yield HEADER + sections, refused(number, place)
 
 
-def main():
-    words = sys.argv[1:]
-    pairs = [(spelling.replace(" ", "").lower(), printed) for spelling, printed in rows()]
-    tables = ["".join(line + "\n" for line in column) for column in zip(*pairs)]
-    if words[:1] == ["--write"]:
-        for path, table in zip(words[1:], tables):
-            with open(path, "w", encoding="utf-8") as stored:
-                stored.write(table)
-        return 0
-    for path, table in zip(words, tables):
-        with open(path, encoding="utf-8") as stored:
-            if stored.read() != table:
-                print("module_table: %s is not what the tables make" % path)
-                return 1
-    print("module_table: %d modules agree" % len(pairs))
-    return 0
+def files():
+    spelt, printed = zip(*rows())
+    return {"stdin": tables.text(line.replace(" ", "").lower() for line in spelt), "stdout": tables.text(printed)}
 
 
 if __name__ == "__main__":
-    sys.exit(main())
+    sys.exit(tables.main("module_table", files, sys.argv[1:]))

@@ -10,6 +10,7 @@ that does not compile tells nothing of a contract.
 
 import os
 import re
+import shutil
 import subprocess
 import sys
 import tempfile
@@ -52,9 +53,10 @@ def tried(folder, known):
     below = sorted(set().union(*(all_below(crate, known) for crate in kinds)))
     crates = os.path.join(folder, "crates")
     os.makedirs(os.path.join(crates, "cloning", "src"))
-    files = ["crates/%s/%s" % (name, part) for name in below for part in ("src", "specs", "proofs") if os.path.isdir(os.path.join(TOP, "crates", name, part))]
-    packed = subprocess.run(["tar", "c", *files], cwd=TOP, stdout=subprocess.PIPE, check=True).stdout
-    subprocess.run(["tar", "x"], cwd=folder, input=packed, check=True)
+    for name in below:
+        for part in ("src", "specs", "proofs"):
+            if os.path.isdir(os.path.join(TOP, "crates", name, part)):
+                shutil.copytree(os.path.join(TOP, "crates", name, part), os.path.join(crates, name, part))
     with open(os.path.join(folder, "crates.txt"), "w", encoding="utf-8") as file:
         file.write("".join("%s: %s\n" % (name, " ".join(known[name])) for name in below) + "cloning: %s\n" % " ".join(sorted(kinds)))
     with open(os.path.join(crates, "cloning", "src", "main.rt"), "w", encoding="utf-8") as file:

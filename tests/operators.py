@@ -2,15 +2,15 @@
 """Runs a small module for every operator through the built program.
 
 Each module reaches `unreachable` where an operator does not give what was computed apart: for integer operators by
-`integer_table`, else by the rows here. Its whole reply and its units are compared with the interpreter in Python too.
+`integers`, else by the rows here. Its whole reply and its units are compared with the interpreter in Python too.
 """
 
 import sys
 
-import integer_table
-from interpreter import PAGE
-from module_writer import body, module, number, signed, text
-from running import Case, compare
+from lib import integers
+from lib.interpreter import PAGE
+from lib.module_writer import body, module, number, signed, text
+from lib.running import Case, compare
 
 CONST, EQUAL = {32: b"\x41", 64: b"\x42"}, {32: b"\x46", 64: b"\x51"}
 IF_NOT_TRAP = bytes.fromhex("45 04 40 00 0B")
@@ -18,7 +18,7 @@ START = ["06 5F 73 74 61 72 74 00 00"]
 
 
 def const(value, bits):
-    return CONST[bits] + signed(integer_table.signed(value % (1 << bits), bits))
+    return CONST[bits] + signed(integers.signed(value % (1 << bits), bits))
 
 
 def expects(value, bits):
@@ -40,10 +40,10 @@ def result_bits(byte, bits):
 
 
 def integer_cases():
-    for byte, function, bits, one in integer_table.operators():
+    for byte, function, bits, one in integers.operators():
         right, traps, sample = b"", [], None
-        for a in integer_table.operands(bits):
-            for b in [None] if one else integer_table.operands(bits):
+        for a in integers.operands(bits):
+            for b in [None] if one else integers.operands(bits):
                 given = const(a, bits) + (b"" if one else const(b, bits)) + bytes([byte])
                 result = function(a, bits) if one else function(a, b, bits)
                 if isinstance(result, str):
@@ -163,8 +163,13 @@ def modules():
     yield "a branch out of 1,000 blocks", program(deep + b"\x0c" + number(999) + b"\x0b" * 1000 + b"\x01")
     yield "a return out of 1,000 blocks", program(deep + b"\x0c" + number(1000) + b"\x0b" * 1000 + b"\x01")
     yield "1,000 loops, the first of which is run again", program(text("41 03 21 00") + text("03 40") * 1000 + text("20 00 41 01 6B 22 00 0D") + number(999) + b"\x0b" * 1000, "01 01 7F")
-    for count in (65_535, 65_536, 65_537):
-        yield "%d constants" % count, program(text("41 00") * count + b"\x1a" * count)
+    for cells in (65_535, 65_536, 65_537):
+        # as many operands, or operands and, below them, 1,022 to 1,024 locals
+        by_height = body(text("41 00") * cells + b"\x1a" * cells)
+        by_locals = body(text("41 00") * 64_513 + b"\x0f", b"\x01" + number(cells - 64_513) + b"\x7f")
+        for by, large in (("height", by_height), ("locals", by_locals)):
+            yield "_start of %d cells by %s" % (cells, by), module(bodies=[large], exports=START)
+            yield "start function of %d cells by %s" % (cells, by), module(bodies=["01", large], exports=START, start="01")
     for last in ([1_023], [1_024], [1_024, 1]):
         counts = [1_024] * 63 + last
         calls = [b"\x10" + number(place) for place in range(1, len(counts))] + [b""]
@@ -178,6 +183,9 @@ def modules():
         yield "start function %s" % parts["start"], module(
             bodies=["23 00 41 08 46 45 04 40 00 0B", "41 08 24 00", "41 08 24 00 00", "03 40 0C 00 0B"], exports=START, global_items=GLOBALS, **parts,
         )  # fmt: skip
+    # It adds 1 to what is 7 at first, and traps where it then is 9: in its second run.
+    yield "start function that is _start itself", module(bodies=["23 00 41 01 6A 24 00"], exports=START, global_items=GLOBALS, start="00")
+    yield "start function that is _start itself, which traps", module(bodies=["23 00 41 01 6A 24 00 23 00 41 09 46 04 40 00 0B 01"], exports=START, global_items=GLOBALS, start="00")
     yield "start function that takes all frames", module(bodies=["01", "10 01"], exports=START, start="01")
 
 

@@ -1,1 +1,2 @@
 pub mod BucketLaws
+mod MeterExamples

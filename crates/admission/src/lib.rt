@@ -9,6 +9,3 @@ pub mod laws;
 mod meters;
 
 pub use meters::{Admission, Meter};
-
-#[cfg(test)]
-mod tests;

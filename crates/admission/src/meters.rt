@@ -5,7 +5,7 @@ ghost use Rattle.admission.specs.Metering.{ask};
 use std::marker::Model;
 
 /// What a meter answers when it is asked to let a request in.
-#[derive(Clone, Copy, Debug, PartialEq, Eq)]
+#[derive(Clone, Copy)]
 pub enum Admission {
     /// The request is let in, and its estimate is on the level.
     Entered,
@@ -25,7 +25,7 @@ pub enum Admission {
 ///
 /// Capacity, level and estimates are in units, the prices of operators; moments are in milliseconds, and the rate is in units per millisecond.
 /// Contracts see it as its `Bucket`. The level never exceeds the capacity.
-#[derive(Clone, Copy, Debug, PartialEq, Eq)]
+#[derive(Clone, Copy)]
 pub struct Meter {
     capacity: u64,
     rate: u64,

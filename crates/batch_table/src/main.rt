@@ -4,7 +4,7 @@
 //! The first line of a batch is `GATE WORKERS QUANTUM POLICY BERTHS PAGES`. The gate is `open`, `held` or `noted`, the policy `rr` or `edf`; the pages are those of each berth, and each module is given as many. Each line behind it is a request, `MODULE BODY BUDGET DEADLINE`.
 //! A batch is printed as `answers` with their number, and behind it the answers in the order of the requests, a line each: the verdict, the units and the turns. A line that is no request, or of a module that is refused, is left out. A batch whose first line has no settings within the limits is printed as `no batch`.
 //! Behind the answers of a batch with the gate `held` stand how often this was passed, and whether one worker took over what another had begun while it held that other. Behind those of one with the gate `noted` stand the places of the first 1,024 passes, in their order.
-//! `tests/batches.py` makes the batches, and computes from the standard alone what must be printed of them. The program stands on `workers` and what is below it, and on `holding_gate`.
+//! `tests/batch_table.py` makes the batches, and computes from the standard alone what must be printed of them. The program stands on `workers` and what is below it, and on `holding_gate`.
 #![tactic(auto)]
 
 mod answers;

@@ -2,7 +2,7 @@
 //!
 //! A line of the file is `read HEX NAME`, which asks for the configuration of these bytes (`-` for none), `size COUNT HEX NAME`, which asks for that of these bytes with blanks behind them up to so many bytes, or `find TENANT HEX`, which asks for the tenant's route of a path in the last configuration that was answered.
 //! A configuration is printed as the values of its keys in order, with the word `tenant` before each tenant and `route` before each route, and with names, paths, files and content types in hexadecimal. A refusal is printed by its number, and a route by its number through all tenants.
-//! `tests/configurations.py` makes the cases, and computes from the format alone what must be printed of them. The program stands on `serve_config`.
+//! `tests/config_table.py` makes the cases, and computes from the format alone what must be printed of them. The program stands on `serve_config`.
 #![tactic(auto)]
 
 use run_queues::Policy;

@@ -6,7 +6,7 @@ use lib.Utf8.{encode}
 use Rattle.wasm_code.specs.Bodies.{body_from}
 use Rattle.wasm_meaning.specs.Linking.{link_refusal}
 use Rattle.wasm_meaning.specs.Validity.{module_walk, outside_walk, bodies_walk, imports_walk, functions_walk, tables_walk, memories_walk, globals_walk, exports_walk, start_walk, elements_walk, segments_walk}
-use Rattle.serve_config.specs.Loading.{program_of}
+use Rattle.module_files.specs.FilePrograms.{program_of}
 use Rattle.generated_load.specs.Modules.{nil_module, trap_module, loop_module, echo_module}
 
 pub nil_accepted : IsOk (program_of 1 nil_module)

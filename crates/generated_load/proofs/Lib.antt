@@ -8,3 +8,8 @@ pub mod Bodies
 pub mod Owned
 pub mod Paged
 pub mod Text
+pub mod Heads
+pub mod Items
+pub mod Pieces
+pub mod LoadItems
+mod LoadExamples

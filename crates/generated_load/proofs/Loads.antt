@@ -3,7 +3,8 @@ use Rattle.std.proofs.Common.{◌≡◌, [], ◌∷◌, Result, Ok, Err, refl}
 use Rattle.std.specs.Prelude.{IsOk}
 use Rattle.wasm_meaning.specs.Programs.{Program}
 use Rattle.serve_config.specs.Routing.{all_routes}
-use Rattle.serve_config.specs.Loading.{program_of, loaded}
+use Rattle.serve_config.specs.Loading.{loaded}
+use Rattle.module_files.specs.FilePrograms.{program_of}
 use Rattle.generated_load.specs.Configuration.{soak_configuration}
 use Rattle.generated_load.specs.Modules.{nil_module, trap_module, loop_module, echo_module, soak_files}
 

@@ -4,8 +4,9 @@ use Rattle.std.specs.Prelude.{map}
 use Rattle.outside.specs.Library.{Files}
 use Rattle.wasm_meaning.specs.Programs.{Program}
 use Rattle.serve_config.specs.declared.tenants.Route.{Route}
-use Rattle.serve_config.specs.Loading.{Unfit, Unloaded, follow, fit, from_answer, loaded, program_of, with_first}
-use Rattle.serve_config.proofs.Programs.{made_pages}
+use Rattle.serve_config.specs.Loading.{Unloaded, follow, fit, from_answer, loaded, with_first}
+use Rattle.module_files.specs.FilePrograms.{Unfit, program_of}
+use Rattle.module_files.proofs.Programs.{made_pages}
 
 -- what is loaded for these routes has their pages
 abbrev HaveTheirs : List Route → Result (List Program) Unloaded → Type 0

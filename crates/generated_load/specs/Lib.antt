@@ -3,3 +3,4 @@ pub mod Generator
 pub mod Modules
 pub mod Requests
 pub mod Recording
+pub mod Asked

@@ -16,6 +16,3 @@ mod requests;
 pub use configuration::soak_config;
 pub use programs::soak_programs;
 pub use recording::soak_recording;
-
-#[cfg(test)]
-mod tests;

@@ -2,13 +2,14 @@
 ghost use Rattle.std.specs.Prelude.{◌≡◌, [], Ok, IfOk, IsOk, OnOk};
 ghost use Rattle.std.specs.Arc.{arc_value};
 ghost use Rattle.serve_config.specs.Routing.{all_routes};
-ghost use Rattle.serve_config.specs.Loading.{program_of as program_due, loaded};
+ghost use Rattle.module_files.specs.FilePrograms.{program_of as program_due};
+ghost use Rattle.serve_config.specs.Loading.{loaded};
 ghost use Rattle.serve_config.specs.Loaded.{programs_in};
 ghost use Rattle.generated_load.specs.Configuration.{soak_configuration};
 ghost use Rattle.generated_load.specs.Modules.{nil_module, trap_module, loop_module, echo_module, soak_files};
 
 use crate::modules::{ECHO, LOOP, NIL, TRAP};
-use serve_config::Unmade;
+use module_files::Unmade;
 use std::alloc::{AllocError, Global};
 use std::sync::Arc;
 use wasm_instance::Program;
@@ -18,7 +19,7 @@ fn program_of(alloc: Global, bytes: &[u8], pages: u32) -> Result<Arc<Program>, A
     requires { IsOk (program_due pages bytes.now) }
     ensures { IfOk result (λ shared. program_due pages bytes.now ≡ Ok (arc_value shared)) }
 {
-    match serve_config::program_of(alloc, bytes, pages) {
+    match module_files::program_of(alloc, bytes, pages) {
         Ok(program) => Ok(Arc::new(alloc, program)?),
         Err(Unmade::Unfit { .. }) => unreachable!(),
         Err(Unmade::NoMemory) => Err(AllocError),

@@ -1,12 +1,14 @@
 -- Steps of a connection, in the words of the code: the bytes held, those taken, and those left.
-use Rattle.std.proofs.Common.{◌≡◌, ◌⊎◌, inl, inr, ℕ, ◌+◌, ◌-◌, ◌<◌, ◌≤◌, false, List, [], ◌∷◌, ◌++◌, length, Option, Some, None, refl, ap, sym, ◌∙◌, arith, append_assoc, append-nil, length-append}
+use Rattle.std.proofs.Common.{◌≡◌, ◌⊎◌, inl, inr, ℕ, ◌+◌, ◌-◌, ◌<◌, ◌≤◌, true, false, List, [], ◌∷◌, ◌++◌, length, Option, Some, None, refl, ap, sym, subst, ◌∙◌, arith, append_assoc, append-nil, length-append}
 use Rattle.httparse.specs.Grammar.{RequestHead, print_request}
+use Rattle.http_items.specs.Ends.{IsEnding}
 use Rattle.http_items.specs.Heads.{head_in}
 use Rattle.http_items.specs.Headings.{Opening}
 use Rattle.http_items.specs.Items.{Heard, Faulty}
 use Rattle.http_items.specs.Standings.{Standing, Reading, items_from, Goes, Opens, Waits, IsQuiet}
 use Rattle.http_items.proofs.FrontLaws.{front_of, head_in_more, head_in_text, head_ends_after}
 use Rattle.http_items.proofs.StandingLaws.{reads_on, reads_opening, reads_beyond}
+use Rattle.http_items.proofs.EndLaws.{quiet_ends}
 use Rattle.http_front.specs.declared.states.State.{State}
 use Rattle.http_front.specs.declared.states.State.TheVariants as state
 use Rattle.http_front.specs.Views.{opened_in, standing_of}
@@ -97,3 +99,7 @@ quiet_state (state.Reading held) = (held.no_head, held.below)
 quiet_state (state.Gathering body) = body.short
 quiet_state state.Over = tt
 quiet_state state.Failed = tt
+
+-- so the end of the stream gives at most one refusal there
+pub state_ends : (s : State) (given : List Heard) → given ≡ items_from (standing_of s) [] true → IsEnding given
+state_ends s given is = subst (λ (hs : List Heard). IsEnding hs) (sym is) (quiet_ends (standing_of s) (quiet_state s))

@@ -1,5 +1,6 @@
 //! Requests out of the pieces of a connection's bytes.
 ghost use Rattle.std.specs.Prelude.{◌≡◌, ◌⊎◌, ◌+◌, ◌<◌, ◌≤◌, None, [], ◌∷◌, ◌++◌, length, map, true, false, IfOk, OnOk, OnErr, IsErr};
+ghost use Rattle.http_items.specs.Ends.{IsEnding};
 ghost use Rattle.http_items.specs.Heads.{head_in};
 ghost use Rattle.http_items.specs.Items.{Faulty, are_pairs};
 ghost use Rattle.http_items.specs.Standings as standings;
@@ -277,9 +278,10 @@ fn ended_body(alloc: Global, body: Body) -> Result<Vec<Item>, AllocError>
     Ok(alone(alloc, fault)?)
 }
 
-/// The items that the end of the stream gives, at most one.
+/// The items that the end of the stream gives.
 fn ended(alloc: Global, state: State) -> Result<Vec<Item>, AllocError>
     ensures given { IfOk result (λ items. map heard_of items.items ≡ items_from (standing_of state) [] true) }
+    ensures ending { IfOk result (λ items. IsEnding (map heard_of items.items)) }
     ensures failed { standing_of state ≡ standings.Failed → IsErr result }
 {
     match state {
@@ -317,12 +319,13 @@ impl Front {
         Ok(done.0)
     }
 
-    /// Takes the end of the stream, and answers the items that it gives: at most one refusal, of a
-    /// request that it cuts.
+    /// Takes the end of the stream, and answers the items that it gives: at most one, which is a
+    /// refusal of the head or of the body that it cuts (RFC 9112 section 8), and closes the connection.
     ///
     /// The only error is want of memory, now or in an earlier call.
     pub fn finish(self) -> Result<Vec<Item>, AllocError>
         ensures given { IfOk result (λ items. map heard_of items.items ≡ items_from self [] true) }
+        ensures ending { IfOk result (λ items. IsEnding (map heard_of items.items)) }
         ensures again { self ≡ standings.Failed → IsErr result }
     {
         let Front { alloc, state } = self;

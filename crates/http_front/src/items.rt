@@ -4,7 +4,7 @@ use http_items::Method;
 use outside::Text;
 
 /// A request whose head and body have come.
-#[derive(Debug, Drop, PartialEq, Eq)]
+#[derive(Drop)]
 pub struct Ask {
     /// The method, one of the three that are served.
     pub method: Method,
@@ -20,7 +20,7 @@ pub struct Ask {
 }
 
 /// A request, or the refusal that comes in the place of one.
-#[derive(Debug, Drop, PartialEq, Eq)]
+#[derive(Drop)]
 pub enum Item {
     /// A request to a path, which may still have no route.
     Request(Ask),

@@ -10,7 +10,7 @@ use itoa::Buffer;
 use std::alloc::{AllocError, Global};
 
 /// What became of a request.
-#[derive(Clone, Copy, Debug, PartialEq, Eq)]
+#[derive(Clone, Copy)]
 pub enum Outcome<'a> {
     /// The function replied with these bytes, and so ended by itself or with exit code 0.
     Bytes(&'a [u8]),

@@ -4,4 +4,5 @@ pub mod FrontLaws
 pub mod ItemLaws
 pub mod LimitLaws
 pub mod StandingLaws
+pub mod EndLaws
 mod ItemExamples

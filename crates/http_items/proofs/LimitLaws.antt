@@ -1,5 +1,5 @@
 -- Items are within their limits: a body has no more bytes than a head may announce, and a refusal has a number from 1 to 8.
-use Rattle.std.proofs.Common.{◌≡◌, ℕ, zero, suc, ◌≤◌, Bool, true, false, List, [], ◌∷◌, ◌++◌, length, take, drop, Option, Some, None, Result, Ok, Err, if◌then◌else◌, nat_le, codes, refl, arith, length-take}
+use Rattle.std.proofs.Common.{◌≡◌, ℕ, zero, suc, ◌≤◌, Bool, true, false, List, [], length, take, drop, Option, Some, None, Result, Ok, Err, if◌then◌else◌, nat_le, codes, refl, arith, length-take}
 use Rattle.std.specs.Str.Parse.{digits_value}
 use Rattle.std.specs.List.{AllByRecursion}
 use Rattle.std.proofs.lemmas.Bool.{leb-true}

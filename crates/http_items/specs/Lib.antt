@@ -5,3 +5,4 @@ pub mod Targets
 pub mod Headings
 pub mod Items
 pub mod Standings
+pub mod Ends

@@ -10,6 +10,8 @@ mod laws;
 mod methods;
 mod refusals;
 
-pub use laws::{heads_of_the_grammar, items_have_numbers, items_in_order, refusals_by_number};
+pub use laws::{
+    end_of_a_stream, heads_of_the_grammar, items_have_numbers, items_in_order, refusals_by_number,
+};
 pub use methods::Method;
 pub use refusals::Refusal;

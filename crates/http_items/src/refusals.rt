@@ -6,7 +6,7 @@ use std::fmt::{self, Display, Formatter, Write};
 
 /// Why a request is refused. Each refusal has a number, by which an item names it, and a text, which
 /// is the body of its reply.
-#[derive(Clone, Copy, Debug, PartialEq, Eq)]
+#[derive(Clone, Copy)]
 pub enum Refusal {
     /// There is no head in the first 8,192 bytes, or in those before the end of the stream.
     BadHead,

@@ -5,7 +5,7 @@
 //! `times COUNT STEP PIECE` feeds a piece so many times, in parts of `step` bytes, and asks how many items come.
 //! `reply OUTCOME VALUE head|whole keep|close` asks for a reply.
 //!
-//! `stdin` and `stdout` are what `tests/http_items.py` makes of its tables and of a reader that was written
+//! `stdin` and `stdout` are what `tests/http_table.py` makes of its tables and of a reader that was written
 //! apart from this one. It stands on `http_front`.
 #![tactic(auto)]
 

@@ -8,9 +8,14 @@ use std::marker::Model;
 use wasm_store::{Strip, Vessel};
 
 /// A clean vessel. It cannot be cloned.
-#[derive(Drop)]
 pub struct Berth {
     vessel: Vessel,
+}
+
+impl Drop for Berth {
+    fn drop(self) {
+        let Berth { vessel: _ } = self;
+    }
 }
 
 impl Model for Berth {
@@ -51,7 +56,8 @@ impl Berth {
         ensures vessel { result ≡ self }
         ensures clean { IsClean result }
     {
-        self.vessel
+        let Berth { vessel } = self;
+        vessel
     }
 
     /// A berth of this vessel.

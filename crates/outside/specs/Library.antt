@@ -44,9 +44,11 @@ CameTo (Err Missing) gave = gave (Gives None)
 CameTo (Err Failed) gave = gave Fails
 CameTo (Err NoMemory) gave = ⊤
 
--- an answer is that of the held file, where the library tells it; else a name has no file only where the count rose; and so it is for a failure
+-- an answer is that of the held file, where the library tells it, and a name that is not held leaves the count as it was; else a name has
+-- no file only where the count rose; and so it is for a failure
 abbrev pub IsTold : Option Files → (name : List ℕ) → (most before now : ℕ) → Fetched → Type 0
-IsTold (Some files) name most before now (Gives answer) = option_map (take (most + 1)) (files name) ≡ answer
+IsTold (Some files) name most before now (Gives None) = (files name ≡ None) × (before ≡ now)
+IsTold (Some files) name most before now (Gives (Some bytes)) = option_map (take (most + 1)) (files name) ≡ Some bytes
 IsTold None name most before now (Gives None) = Rose before now
 IsTold None name most before now (Gives (Some bytes)) = ⊤
 IsTold held name most before now Fails = Rose before now

@@ -1,8 +1,8 @@
 -- A sink in memory: what it has taken, where its calls are cut, and what each call takes and leaves.
-use Rattle.std.specs.Prelude.{◌≡◌, ◌==◌, ℕ, ◌+◌, ◌-◌, ◌≤◌, ◌++◌, min, Bool, cond, List, Option, None, Some, find, length, take, unwrap_or}
+use Rattle.std.specs.Prelude.{◌≡◌, ◌==◌, ◌↔◌, ℕ, ◌+◌, ◌-◌, ◌≤◌, ◌++◌, min, Bool, IsTrue, cond, List, Option, None, Some, find, length, take, unwrap_or}
 use Rattle.std.specs.Option.{option_map}
 use Rattle.outside.specs.Faults.{one_more}
-use Rattle.outside.specs.Sink.{SinkState}
+use Rattle.outside.specs.Sink.{SinkState, Takes}
 use Rattle.outside.specs.declared.pages.Cut.{Cut}
 
 -- a page as contracts see it: the bytes that it has taken, how many it has room for, the calls
@@ -37,3 +37,9 @@ after_write p piece passed = record p {
   calls = one_more p.calls;
   faults = cond passed p.faults (one_more p.faults);
 }
+
+-- what a page took is what its cuts and its room let pass, and the call is counted
+pub record PageTook (old new : Writing) (bytes : List ℕ) (all : Bool) : Type 0 where
+  pub takes : Takes (page_state old) (page_state new) bytes all
+  pub passes : IsTrue all ↔ Passes old (length bytes)
+  pub after : new ≡ after_write old bytes all

@@ -2,11 +2,11 @@
 //
 // They loop over `read` and `write` themselves, count each error, and go on after an interrupted
 // call. What a file of the system holds and what its streams take is trusted: no clause tells it.
-ghost use Rattle.std.specs.Prelude.{◌≡◌, ◌+◌, ◌≤◌, ℕ, List, false, length, take, IfOk, IfErr, OnOk, OnErr};
+ghost use Rattle.std.specs.Prelude.{◌≡◌, ◌+◌, ◌≤◌, ℕ, List, false, is_ok, length, take, IfOk, IfErr, OnOk, OnErr};
 ghost use Rattle.std.specs.Io.KnownBytes.{Keeps, Appends as Gains};
 ghost use Rattle.outside.specs.Faults.{one_more, FailsOnlyWhereRose};
 ghost use Rattle.outside.specs.Sink.{Appends, TakesPrefix};
-ghost use Rattle.outside.specs.Counted.{GainsPrefix, UntoldGave, untold_library, untold_sink};
+ghost use Rattle.outside.specs.Counted.{GainsPrefix, UntoldGave, UntoldTook, untold_library, untold_sink};
 ghost use Rattle.outside.specs.Library.{AreBytes, CameTo, FetchCause};
 
 use crate::faults::Failed;
@@ -227,7 +227,12 @@ impl<W: Write> StdSink<W> {
 impl<W: Write> Sink for StdSink<W> {
     ghost state = { λ sink. untold_sink sink.faults };
 
+    ghost took = { λ old new bytes all. UntoldTook old.faults new.faults bytes all };
+
+    ghost takes = { λ old new bytes all took. took };
+
     fn write(&mut self, bytes: &[u8]) -> Result<(), Failed>
+        ensures taken { UntoldTook self.old.faults self.new.faults bytes.now (is_ok result) }
         ensures ok { OnOk result
             (Appends (untold_sink self.old.faults) (untold_sink self.new.faults) bytes.now) }
         ensures err { OnErr result

@@ -2,7 +2,7 @@
 ghost use Rattle.std.specs.Prelude.{◌≡◌, ◌≤◌, ◌↔◌, [], length, is_ok, IfOk, OnOk, OnErr, IsOk, IsTrue};
 ghost use Rattle.outside.specs.Faults.{FailsOnlyWhereRose};
 ghost use Rattle.outside.specs.Sink.{Appends, TakesPrefix};
-ghost use Rattle.outside.specs.Page.{Passes, next_cut, page_state, taken_of, after_write};
+ghost use Rattle.outside.specs.Page.{PageTook, Passes, next_cut, page_state, taken_of, after_write};
 
 use crate::faults::Failed;
 use crate::sinks::Sink;
@@ -24,13 +24,24 @@ pub struct Cut {
 
 /// A sink in memory with a fixed room, which shows what it has taken and fails only at the calls
 /// that it was told and where its room ends.
-#[derive(Debug, Drop)]
 pub struct Page {
     bytes: Vec<u8>,
     room: u64,
     failing: Vec<Cut>,
     calls: u64,
     faults: u64,
+}
+
+impl Drop for Page {
+    fn drop(self) {
+        let Page {
+            bytes: _,
+            room: _,
+            failing: _,
+            calls: _,
+            faults: _,
+        } = self;
+    }
 }
 
 impl Model for Page {
@@ -105,7 +116,12 @@ impl Page {
 impl Sink for Page {
     ghost state = { page_state };
 
+    ghost took = { PageTook };
+
+    ghost takes = { λ old new bytes all took. took.takes };
+
     fn write(&mut self, bytes: &[u8]) -> Result<(), Failed>
+        ensures taken { PageTook self.old self.new bytes.now (is_ok result) }
         ensures ok { OnOk result (Appends (page_state self.old) (page_state self.new) bytes.now) }
         ensures err { OnErr result
             (TakesPrefix (page_state self.old) (page_state self.new) bytes.now) }

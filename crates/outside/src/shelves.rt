@@ -14,12 +14,22 @@ use std::marker::Model;
 mod tests;
 
 /// A library in memory, which tells what it holds and fails only at the calls that it was told.
-#[derive(Debug, Drop)]
 pub struct Shelf {
     files: Vec<(Text, Vec<u8>)>,
     failing: Vec<u64>,
     calls: u64,
     faults: u64,
+}
+
+impl Drop for Shelf {
+    fn drop(self) {
+        let Shelf {
+            files: _,
+            failing: _,
+            calls: _,
+            faults: _,
+        } = self;
+    }
 }
 
 impl Model for Shelf {
@@ -96,7 +106,7 @@ impl Library for Shelf {
 
     ghost gave = { ShelfGave };
 
-    ghost tells = { λ old new name most fetched given. given };
+    ghost tells = { λ old new name most fetched given. given.tells };
 
     fn read(&mut self, alloc: Global, name: &str, most: u64) -> Result<Vec<u8>, Fetch>
         ensures given { CameTo result (ShelfGave self.old self.new name.now most) }

@@ -5,9 +5,15 @@ use std::marker::Model;
 
 /// Text of one's own, as the name of a file: a `String` that contracts see as the list of its
 /// bytes in UTF-8.
-#[derive(Debug, Drop)]
+#[derive(Debug)]
 pub struct Text {
     text: String,
+}
+
+impl Drop for Text {
+    fn drop(self) {
+        let Text { text: _ } = self;
+    }
 }
 
 impl Model for Text {

@@ -2,7 +2,7 @@
 use Rattle.std.proofs.Common.{◌≡◌, ◌≢◌, ℕ, zero, suc, ◌+◌, ◌<◌, ◌≤◌, Bool, true, false, List, [], ◌∷◌, ◌++◌, length, drop, set, get_or, refl, sym, ap, subst, ◌∙◌, arith, append_assoc, append-nil}
 use Rattle.std.proofs.Math.Seq.{drop-append_seam}
 use Rattle.http_items.specs.Items.{Heard, items, items_upto}
-use Rattle.http_items.specs.Standings.{Standing, Reading, Over, Goes, items_from}
+use Rattle.http_items.specs.Standings.{Standing, Reading, Over, items_from}
 use Rattle.recording_format.specs.declared.records.Record.{Record}
 use Rattle.recorded_arrivals.specs.Arrivals.{bytes_on}
 use Rattle.recorded_arrivals.specs.Feeding.{Stands, IsFed, AreFed}

@@ -1,5 +1,5 @@
 -- Arrivals: the items of all connections of a recording, each once. They are numbered by the record of the piece that completes them, then by their place in the stream; behind them come those that the ends of the streams complete.
-use Rattle.std.specs.Prelude.{ℕ, suc, Bool, false, true, List, [], ◌∷◌, ◌++◌, length, drop, map, if◌then◌else◌, ◌==◌}
+use Rattle.std.specs.Prelude.{ℕ, suc, false, true, List, [], ◌∷◌, ◌++◌, length, drop, map, if◌then◌else◌, ◌==◌}
 use Rattle.std.specs.List.{flat_map}
 use Rattle.http_items.specs.Items.{Heard, items}
 use Rattle.recording_format.specs.declared.records.Event.{Event}

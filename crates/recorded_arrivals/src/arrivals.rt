@@ -3,7 +3,7 @@
 use http_front::Item;
 
 /// An item of a connection, once it is complete.
-#[derive(Debug, Drop)]
+#[derive(Drop)]
 pub struct Arrival {
     /// The connection: how many connections began before it.
     pub link: u32,

@@ -18,6 +18,3 @@ pub use reading::read_recording;
 pub use recordings::Recording;
 pub use records::{Event, Piece, Record};
 pub use refusals::Refusal;
-
-#[cfg(test)]
-mod tests;

@@ -11,7 +11,7 @@ use std::marker::Model;
 /// A recording: records that follow one another, from an empty one on. A connection that is open behind the last record ends there.
 ///
 /// Contracts see it as the list of its records, which is legal: moments never fall, connections begin with the links 0, 1, 2 and so on, at most 1,024 of them, and no record is of a link that has not begun or is closed.
-#[derive(Debug, Drop)]
+#[derive(Drop)]
 pub struct Recording {
     records: Vec<Record>,
 

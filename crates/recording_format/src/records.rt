@@ -4,7 +4,7 @@ ghost use Rattle.std.specs.Prelude.{◌≡◌};
 use std::marker::Model;
 
 /// Bytes that arrived together on a connection, maybe none. Contracts see them as a list.
-#[derive(Debug, Drop)]
+#[derive(Drop)]
 pub struct Piece {
     bytes: Vec<u8>,
 }
@@ -34,7 +34,7 @@ impl Piece {
 }
 
 /// What a record says of its connection.
-#[derive(Debug, Drop)]
+#[derive(Drop)]
 pub enum Event {
     /// It begins, and is that of a tenant: the tenant's index in the configuration.
     Begins(u32),
@@ -47,7 +47,7 @@ pub enum Event {
 }
 
 /// A record of a recording.
-#[derive(Debug, Drop)]
+#[derive(Drop)]
 pub struct Record {
     /// The moment, in milliseconds.
     pub moment: u32,

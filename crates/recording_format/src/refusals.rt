@@ -3,7 +3,7 @@ ghost use Rattle.std.specs.Prelude.{◌≡◌};
 ghost use Rattle.recording_format.specs.Refusals.{number_of};
 
 /// Why bytes are refused as a recording.
-#[derive(Clone, Copy, Debug, PartialEq, Eq)]
+#[derive(Clone, Copy)]
 pub enum Refusal {
     /// 70: they do not begin with the magic bytes.
     BadMagic,

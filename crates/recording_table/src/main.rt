@@ -1,7 +1,7 @@
 //! Prints what `read_recording` answers to each case of the file `cases`: the records, or the number of the refusal.
 //!
 //! A line of the file has a word, a number of tenants, bytes in hexadecimal (`-` for none) and a name. The word `read` asks for the answer to the bytes, and `cuts` for the refusal of each cut of them, the shortest first.
-//! `tests/recordings.py` makes the cases, and computes from the format alone what must be printed of them. The program stands on `recording_format`.
+//! `tests/recording_table.py` makes the cases, and computes from the format alone what must be printed of them. The program stands on `recording_format`.
 #![tactic(auto)]
 
 use recording_format::{Event, Recording, RecordingFault, read_recording};

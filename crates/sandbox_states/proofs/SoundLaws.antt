@@ -7,14 +7,15 @@ use Rattle.wasm_meaning.specs.Requests.{Request, Verdict, run_of, concluded, ver
 use Rattle.wasm_meaning.specs.State.{Outcome, Run, paid}
 use Rattle.wasm_meaning.specs.Turns.{groups, turns, IsShortest}
 use Rattle.wasm_store.specs.View.{View}
-use Rattle.wasm_states.specs.Holding.{Holds, Begins}
+use Rattle.wasm_states.specs.Holding.{Holds, Begins, fresh_view}
 use Rattle.wasm_states.specs.Steps.{Pays}
 use Rattle.sandbox_states.proofs.GroupLaws.{sum_join, rest_is, all_paid, first_group, turns_left}
+use Rattle.sandbox_states.specs.Onward.{HasPending, RunsFor}
 use Rattle.sandbox_states.specs.Paths.{outcome_of, Onwards, Path, Reaches, Finishes, TurnsOn}
 use Rattle.sandbox_states.specs.Rests.{prices_after, ArePaid}
 use Rattle.sandbox_states.specs.Sound.{IsSound}
 use Rattle.sandbox_states.specs.Stands.{StandsFor, StandsInTurns, IsOneTurn, IsLastTurn, IsTurnOf, IsSuspended, AnswersFor, AnswersIn, TurnStandsFor, TurnStandsInTurns}
-use Rattle.sandbox_states.specs.Views.{SandboxView, FinishedView, remaining, request_of, stopped}
+use Rattle.sandbox_states.specs.Views.{AdmittedView, SandboxView, FinishedView, remaining, request_of, stopped, started}
 use Rattle.sandbox_states.specs.declared.runs.Ending.{Ending}
 use Rattle.sandbox_states.specs.declared.turns.Turn.{Turn}
 use Rattle.sandbox_states.specs.declared.turns.Turn.TheVariants as turn
@@ -52,6 +53,36 @@ in_turns_at_start request quantum s same none zero_turns =
     let left : turns (remaining s) quantum ≡ turns (prices request) quantum = ap (λ (ps : List ℕ). turns ps quantum) (sym stands.prices_are) in
     record { stands = stands; in_all = omega (arith, zero_turns, left) }
 
+abbrev sandbox : (place deadline budget pages : ℕ) → Request → View → Streams → SandboxView
+sandbox place deadline budget pages r v s = record {
+  place = place;
+  deadline = deadline;
+  pages = pages;
+  request = r;
+  units = 0;
+  turns = 0;
+  left = budget;
+  vessel = v;
+  streams = s;
+}
+
+begins_as
+    : (place deadline budget pages pages' : ℕ) (r r' : Request) (v v' : View) (s s' : Streams) → pages ≡ pages' → r ≡ r' → v ≡ v' → s ≡ s'
+    → sandbox place deadline budget pages r v s ≡ sandbox place deadline budget pages' r' v' s'
+begins_as place deadline budget pages pages' r r' v v' s s' a b c d = λ i. sandbox place deadline budget (a i) (b i) (c i) (d i)
+
+-- what `start` makes
+pub started_is
+    : (p p' : Program) → p' ≡ p → (place deadline budget : ℕ) (streams : Streams) (v v' : View) (job : AdmittedView) (berth : View)
+    → record { place = place; deadline = deadline; request = request_of p streams budget } ≡ job → streams ≡ unused streams.body → v ≡ berth → v' ≡ fresh_view p' v.pages
+    → stopped place deadline p v' streams 0 budget 0 ≡ started job berth
+started_is p p' same place deadline budget streams v v' job berth seen fresh on begun =
+    let there : v' ≡ fresh_view p berth.pages = begun ∙ ap (λ (x : Program). fresh_view x v.pages) same ∙ ap (λ (x : View). fresh_view p x.pages) on in
+    let whole : 0 + budget ≡ budget = omega arith in
+    begins_as place deadline budget v'.pages berth.pages (request_of p streams (0 + budget)) (request_of p streams budget) v' (fresh_view p berth.pages) streams (unused streams.body)
+    (ap (λ (x : View). x.pages) there) (ap (λ (b : ℕ). request_of p streams b) whole) there fresh
+    ∙ ap (λ (j : AdmittedView). started j berth) seen
+
 -- A turn.
 
 made : Program → List ℕ → ℕ → Request
@@ -67,6 +98,21 @@ module _ (p : Program) (v : View) (streams : Streams) (had left count : ℕ) (so
       ap (λ (r : Run). prices_after had r.prices) sound.run
       ∙ ap (λ (n : ℕ). prices_after n (sound.before ++ (onward (instance_of p) (had + left) sound.pending left).prices)) (sym sound.units_are)
       ∙ rest_is sound.before (onward (instance_of p) (had + left) sound.pending left).prices sound.least
+
+  -- so the sandbox stands for its request in full
+  pub runs_for : (place deadline : ℕ) (s : SandboxView) → stopped place deadline p v streams had left count ≡ s → RunsFor s.request s
+  runs_for place deadline s seen = subst (λ (x : SandboxView). RunsFor x.request x) seen (record {
+    same_program = refl;
+    same_body = refl;
+    same_budget = refl;
+    pending = sound.pending;
+    has = record { holds = sound.holds; streams_are = sound.streams_are };
+    same_verdict = sym (ap (λ (r : Run). verdict_of r) sound.run);
+    remaining_are = remaining_is;
+    before = sound.before;
+    paid = sound.units_are;
+    same_prices = ap (λ (r : Run). r.prices) sound.run;
+  })
 
   module _ (v' : View) (streams' : Streams) (got : ℕ) (within : got ≤ left) (same_body : streams'.body ≡ streams.body) where
     same_budget : had + got + (left - got) ≡ had + left

@@ -1,3 +1,4 @@
+pub mod Onward
 pub mod Paths
 pub mod Rests
 pub mod Sound

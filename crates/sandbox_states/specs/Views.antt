@@ -1,9 +1,10 @@
 -- What contracts see of a request on its way from its admission to its answer.
 use Rattle.std.specs.Prelude.{ℕ, ◌+◌, List}
 use Rattle.wasm_meaning.specs.HostCalls.{Streams}
-use Rattle.wasm_meaning.specs.Programs.{Program}
+use Rattle.wasm_meaning.specs.Programs.{Program, unused}
 use Rattle.wasm_meaning.specs.Requests.{Request, Verdict, Replied, Exit, Trap, BudgetSpent, prices}
 use Rattle.wasm_store.specs.View.{View}
+use Rattle.wasm_states.specs.Holding.{fresh_view}
 use Rattle.sandbox_states.specs.Rests.{prices_after}
 use Rattle.sandbox_states.specs.declared.verdicts.Verdict.{Verdict as Given}
 use Rattle.sandbox_states.specs.declared.verdicts.Verdict.TheVariants as given
@@ -21,7 +22,8 @@ pub record AdmittedView : Type 0 where
   pub deadline : ℕ
   pub request : Request
 
--- a request that has begun: the pages of its vessel, the units that it has paid so far, and its turns so far
+-- a request that has begun: the pages of its vessel, the units that it has paid so far, and its turns so far;
+-- then what it goes on with: the units that it may still pay, its vessel and its streams
 pub record SandboxView : Type 0 where
   pub place : ℕ
   pub deadline : ℕ
@@ -29,6 +31,9 @@ pub record SandboxView : Type 0 where
   pub request : Request
   pub units : ℕ
   pub turns : ℕ
+  pub left : ℕ
+  pub vessel : View
+  pub streams : Streams
 
 -- a request that is over, whose vessel is not yet rinsed
 pub record FinishedView : Type 0 where
@@ -60,12 +65,24 @@ stopped place deadline p v streams units left turns = record {
   request = request_of p streams (units + left);
   units = units;
   turns = turns;
+  left = left;
+  vessel = v;
+  streams = streams;
 }
 
--- where a job begins on a berth
+-- where a job begins on a berth: at the beginning of its program, with nothing paid, read or written
 abbrev pub started : AdmittedView → (berth : View) → SandboxView
-started job berth =
-    record { place = job.place; deadline = job.deadline; pages = berth.pages; request = job.request; units = 0; turns = 0 }
+started job berth = record {
+  place = job.place;
+  deadline = job.deadline;
+  pages = berth.pages;
+  request = job.request;
+  units = 0;
+  turns = 0;
+  left = job.request.budget;
+  vessel = fresh_view job.request.program berth.pages;
+  streams = unused job.request.body;
+}
 
 abbrev pub answer_of : FinishedView → AnswerView
 answer_of f = record { place = f.place; verdict = f.verdict; units = f.units; turns = f.turns }

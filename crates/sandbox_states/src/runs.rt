@@ -13,7 +13,7 @@ use wasm_step::{Step, step};
 use wasm_store::Vessel;
 
 /// How a run is over.
-#[derive(Clone, Copy, Debug, PartialEq, Eq)]
+#[derive(Clone, Copy)]
 pub(crate) enum Ending {
     /// All functions came to their ends.
     Fell,
@@ -29,7 +29,7 @@ pub(crate) enum Ending {
 }
 
 /// What came of one operator.
-#[derive(Clone, Copy, Debug, PartialEq, Eq)]
+#[derive(Clone, Copy)]
 pub(crate) enum Progress {
     /// It cost so many units.
     Paid(u64),
@@ -42,7 +42,7 @@ pub(crate) enum Progress {
 }
 
 /// What came of operators of the function alone.
-#[derive(Clone, Copy, Debug, PartialEq, Eq)]
+#[derive(Clone, Copy)]
 pub(crate) enum Pause {
     /// All is paid out.
     Stopped,
@@ -55,7 +55,7 @@ pub(crate) enum Pause {
 }
 
 /// What came of operators that are to reach a quantum.
-#[derive(Clone, Copy, Debug, PartialEq, Eq)]
+#[derive(Clone, Copy)]
 pub(crate) enum Stretch {
     /// They reached it, with so many units.
     Reached { paid: u64 },
@@ -65,7 +65,7 @@ pub(crate) enum Stretch {
 }
 
 /// What is left where a quantum was reached.
-#[derive(Clone, Copy, Debug, PartialEq, Eq)]
+#[derive(Clone, Copy)]
 pub(crate) enum Behind {
     /// An operator that is to be paid.
     More,

@@ -2,6 +2,7 @@
 ghost use Rattle.std.specs.Prelude.{◌≡◌, ℕ, ◌+◌, ◌^◌, ◌≤◌};
 ghost use Rattle.std.specs.Arc.{arc_value};
 ghost use Rattle.wasm_store.specs.View.{IsClean};
+ghost use Rattle.sandbox_states.specs.Onward.{RunsFor};
 ghost use Rattle.sandbox_states.specs.Stands.{StandsFor, StandsInTurns};
 ghost use Rattle.sandbox_states.specs.Views.{answer_of, started, told};
 
@@ -95,10 +96,11 @@ impl Sandbox {
         self.deadline
     }
 
-    /// The units that it has paid so far.
+    /// The units that it has paid so far. Whoever asks for them may rely on what the sandbox stands for: its vessel and its streams have something pending, and running it onward gives its request's verdict and the prices that are still to be paid.
     pub fn units(&self) -> u64
         ensures units { result ≡ self.now.units }
         ensures most { result ≤ 2 ^ 40 }
+        ensures onward { RunsFor self.now.request self.now }
     {
         self.units
     }

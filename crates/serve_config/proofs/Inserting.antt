@@ -1,15 +1,14 @@
 -- What `matchit` answers to a route without parameters that it has not yet.
-use Rattle.std.proofs.Common.{◌≡◌, ℕ, List, [], ◌∷◌, Option, Some, None, Bool, true, false, Result, Ok, Err, refl, sym, ◌∙◌}
-use Rattle.std.specs.Prelude.{option_map}
+use Rattle.std.proofs.Common.{◌≡◌, ℕ, List, None, true, Result, Ok, Err, refl, sym, ◌∙◌}
 use Rattle.matchit.specs.Rows.{RowsOf}
 use Rattle.matchit.specs.Order.{lookup, placed}
 use Rattle.matchit.specs.Route.{parse_route}
-use Rattle.matchit.specs.Router.{RouteOf, InsertsRead, Inserted, Refused, route_from, nearest}
+use Rattle.matchit.specs.Router.{RouteOf, InsertsRead, Inserted, Refused, nearest}
 use Rattle.matchit.specs.declared.error.InsertError.{InsertError}
 use Rattle.matchit.specs.declared.error.InsertError.TheVariants.{Conflict, InvalidParam, InvalidParamSegment, InvalidCatchAll, OutOfMemory}
 use Rattle.serve_config.specs.Letters.{is_path}
 use Rattle.serve_config.specs.Tables.{number_at, table_of, row_of}
-use Rattle.serve_config.proofs.Literals.{IsLiteral, literal_path, text_literal, parse_literal, scanned, no_nearest}
+use Rattle.serve_config.proofs.Literals.{literal_path, text_literal, parse_literal, no_nearest}
 use Rattle.serve_config.proofs.Tabling.{read_rows, no_value}
 
 pub as_read : (path : List ℕ) (number : ℕ) (old new : RowsOf (RouteOf ℕ)) (result : Result (Unit {0}) InsertError) → is_path path ≡ true

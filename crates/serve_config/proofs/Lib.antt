@@ -7,7 +7,7 @@ mod Tabling
 mod Inserting
 mod Making
 mod Numbering
-pub mod Programs
 mod Places
 mod Loadings
 mod ToldLoads
+pub mod Accepting

@@ -1,16 +1,15 @@
 -- Routes without parameters: how `matchit` reads one, and that two of them conflict only where they are equal.
-use Rattle.std.proofs.Common.{◌≡◌, ◌≢◌, ℕ, zero, suc, ◌+◌, ◌<◌, ◌≤◌, List, [], ◌∷◌, ◌++◌, length, drop, get_or, Option, Some, None, Bool, true, false, cond, Result, Ok, Err, refl, sym, ap, ◌∙◌, arith, ◌==◌, ltb, ◌&&◌, ◌||◌, not, append-nil, append_assoc}
+use Rattle.std.proofs.Common.{◌≡◌, ℕ, zero, suc, ◌<◌, List, [], ◌∷◌, ◌++◌, length, drop, get_or, Some, None, Bool, true, false, cond, Ok, refl, sym, ap, ◌∙◌, arith, ◌==◌, ltb, ◌&&◌, append-nil, append_assoc}
 use Rattle.std.specs.List.{list_all}
 use Rattle.std.proofs.lemmas.Bool.Decides.{nat_tests}
 use Rattle.std.specs.Cmp.Lexicographic.{bytes_decides}
-use Rattle.matchit.specs.Rows.{RowsOf, param_token, catch_all_token}
+use Rattle.matchit.specs.Rows.{RowsOf}
 use Rattle.matchit.specs.Seek.{slash, same_text}
 use Rattle.matchit.specs.Level.{IsText}
 use Rattle.matchit.specs.Order.{common_len, lookup}
-use Rattle.matchit.specs.Conflict.{conflicts, wild_clash, segment_clash, at_clash, param_place, next_place, segment_start}
-use Rattle.matchit.specs.Route.{Scan, scan, feed, feed_outside, push_byte, finish, shape_error, parse_route}
-use Rattle.matchit.specs.Router.{nearest, nearest_from, nearer}
-use Rattle.matchit.specs.declared.error.InsertError.{InsertError}
+use Rattle.matchit.specs.Conflict.{conflicts, wild_clash, segment_clash, param_place, next_place, segment_start}
+use Rattle.matchit.specs.Route.{Scan, scan, feed, shape_error, parse_route}
+use Rattle.matchit.specs.Router.{nearest_from}
 use Rattle.matchit.proofs.RouteLemmas.{scan-ok, scan-end, parse-ok}
 use Rattle.matchit.proofs.CountLemmas.{same-common}
 use Rattle.serve_config.specs.Letters.{is_path, is_path_byte}

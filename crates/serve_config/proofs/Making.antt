@@ -1,22 +1,20 @@
 -- From the routers of the tenants to the routes of the whole.
-use Rattle.std.proofs.Common.{◌≡◌, ℕ, zero, suc, ◌+◌, ◌<◌, ◌≤◌, List, [], ◌∷◌, ◌++◌, length, take, get_or, Option, Some, None, Bool, true, false, refl, ap, sym, ◌∙◌, arith, add-one}
-use Rattle.std.specs.Prelude.{option_map, option_and_then, slice_get, map, nat_lt}
+use Rattle.std.proofs.Common.{◌≡◌, ℕ, zero, suc, ◌+◌, ◌<◌, ◌≤◌, List, [], ◌∷◌, ◌++◌, length, take, get_or, Option, None, false, refl, ap, sym, ◌∙◌, arith}
+use Rattle.std.specs.Prelude.{option_map, option_and_then, slice_get}
 use Rattle.std.specs.Str.{bytes_eq}
 use Rattle.std.specs.List.{list_any, position_from}
 use Rattle.std.proofs.lemmas.Bool.Decides.{nat_tests}
 use Rattle.std.proofs.lemmas.List.{take_more}
 use Rattle.std.proofs.lemmas.List.Sums.{sum_by-cons, sum_by-append}
-use Rattle.std.proofs.lemmas.List.Folds.{list_any_at}
 use Rattle.matchit.specs.Rows.{RowsOf}
 use Rattle.matchit.specs.Seek.{first}
 use Rattle.matchit.specs.Router.{RouteOf}
-use Rattle.serve_config.specs.declared.refusals.Refusal.{Refusal}
 use Rattle.serve_config.specs.declared.tenants.Route.{Route}
 use Rattle.serve_config.specs.declared.tenants.Tenant.{Tenant}
 use Rattle.serve_config.specs.Configuration.{Configuration}
 use Rattle.serve_config.specs.Overview.{route_count, some_route, has_bad_path, has_double, has_one_path, first_fault}
 use Rattle.serve_config.specs.Routing.{routes_before, route_number}
-use Rattle.serve_config.specs.Tables.{AreTexts, AllTexts, number_at, table_of, tables_of, found_in, IsTable, AreMade, AreTablesOf}
+use Rattle.serve_config.specs.Tables.{AllTexts, tables_of, found_in, IsTable, AreMade, AreTablesOf}
 use Rattle.serve_config.proofs.Tabling.{value_of, found_is}
 
 abbrev pub numbers_from : (first : ℕ) → List Tenant → (tenant : ℕ) → (path : List ℕ) → Option ℕ

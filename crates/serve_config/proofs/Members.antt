@@ -1,6 +1,6 @@
 -- Keys and items as contracts see them are those of the map and the array.
 use Rattle.std.proofs.Common.{◌≡◌, List, [], ◌∷◌, ◌&&◌, length, Bool, refl, ap}
-use Rattle.std.specs.Prelude.{ℕ, String, string_bytes, map}
+use Rattle.std.specs.Prelude.{ℕ, String, string_bytes}
 use Rattle.std.specs.List.{list_all}
 use Rattle.std.specs.Map.{keys_of}
 use Rattle.std.specs.declared.alloc.Global.{Global}

@@ -1,9 +1,9 @@
 -- Among routes without parameters the walk of `matchit` finds the one whose text is the path.
-use Rattle.std.proofs.Common.{◌≡◌, ℕ, zero, suc, ◌-◌, ◌<◌, ◌≤◌, List, [], ◌∷◌, length, Option, Some, None, Bool, true, false, cond, refl, ap, sym, ◌∙◌, arith, nat_eq, ◌==◌, ◌&&◌}
+use Rattle.std.proofs.Common.{◌≡◌, ℕ, zero, suc, ◌-◌, ◌<◌, ◌≤◌, List, [], ◌∷◌, length, Option, Some, None, Bool, true, false, cond, refl, sym, ◌∙◌, arith, nat_eq, ◌==◌, ◌&&◌}
 use Rattle.std.proofs.lemmas.Bool.Decides.{nat_tests}
 use Rattle.std.specs.Cmp.Lexicographic.{bytes_decides}
 use Rattle.matchit.specs.Rows.{RowsOf, param_token, catch_all_token, comes_before}
-use Rattle.matchit.specs.Seek.{own, step, or_else, seek, first, param_step, has_slash, same_text}
+use Rattle.matchit.specs.Seek.{own, step, or_else, seek, param_step, has_slash, same_text}
 use Rattle.matchit.specs.Level.{IsText}
 use Rattle.matchit.specs.Order.{lookup, placed}
 use Rattle.serve_config.specs.Tables.{AreTexts}

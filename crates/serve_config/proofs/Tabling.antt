@@ -1,20 +1,19 @@
 -- The routers of tenants have the numbers of their routes.
-use Rattle.std.proofs.Common.{◌≡◌, ℕ, zero, suc, ◌+◌, ◌<◌, ◌≤◌, List, [], ◌∷◌, ◌++◌, length, take, get_or, Option, Some, None, Bool, true, false, cond, not, ◌||◌, refl, ap, sym, ◌∙◌, arith, add-one}
-use Rattle.std.specs.Prelude.{option_map, map}
+use Rattle.std.proofs.Common.{◌≡◌, ℕ, zero, suc, ◌+◌, ◌<◌, List, [], ◌∷◌, ◌++◌, length, take, get_or, Option, Some, None, Bool, true, false, cond, not, ◌||◌, refl, ap, sym, ◌∙◌, arith}
+use Rattle.std.specs.Prelude.{option_map}
 use Rattle.std.specs.Str.{bytes_eq}
 use Rattle.std.specs.List.{list_any, position_from}
 use Rattle.std.specs.Cmp.Lexicographic.{bytes_decides}
 use Rattle.std.proofs.lemmas.List.{take_more, length-take-le}
 use Rattle.std.proofs.lemmas.List.Folds.{list_any_at}
 use Rattle.matchit.specs.Rows.{RowsOf}
-use Rattle.matchit.specs.Level.{IsText}
 use Rattle.matchit.specs.Order.{lookup, placed}
 use Rattle.matchit.specs.Seek.{same_text, first}
 use Rattle.matchit.specs.Router.{RouteOf}
 use Rattle.serve_config.specs.declared.tenants.Route.{Route}
 use Rattle.serve_config.specs.Letters.{is_path}
 use Rattle.serve_config.specs.Overview.{has_bad_path, has_double, has_one_path}
-use Rattle.serve_config.specs.Tables.{Table, AreTexts, number_at, table_of, IsTable, row_of}
+use Rattle.serve_config.specs.Tables.{AreTexts, number_at, table_of, IsTable, row_of}
 use Rattle.serve_config.proofs.Literals.{literal_path, text_literal}
 use Rattle.serve_config.proofs.Seeking.{seek_is, lookup_placed, texts_placed}
 

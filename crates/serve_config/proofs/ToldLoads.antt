@@ -6,9 +6,11 @@ use Rattle.outside.specs.Library.{Fails, Fetched, Files, Gives, IsTold, LibraryS
 use Rattle.wasm_reader.specs.Modules.{most_bytes}
 use Rattle.wasm_meaning.specs.Programs.{Program}
 use Rattle.serve_config.specs.declared.tenants.Route.{Route}
-use Rattle.serve_config.specs.Loading.{HasNone, HasProgram, HavePrograms, IsFirstWithNone, IsUnfit, Loads, LoadsAll, NotRead, Unfit, Unloaded, fit, follow, from_answer, loaded, program_of, with_first}
+use Rattle.module_files.specs.FilePrograms.{Unfit, program_of}
+use Rattle.serve_config.specs.Loading.{HasNone, HasProgram, HavePrograms, IsFirstWithNone, IsUnfit, Loads, LoadsAll, NotRead, Unloaded, fit, follow, from_answer, loaded, with_first}
 use Rattle.serve_config.specs.Loaded.{HasFailed}
-use Rattle.serve_config.proofs.Programs.{program_front}
+use Rattle.outside.proofs.ToldFiles.{told_file}
+use Rattle.module_files.proofs.Programs.{program_front}
 
 -- What is loaded over files, by what they are.
 
@@ -137,9 +139,8 @@ module _ {L : Type 0} (state : L → LibraryState) (gave : L → L → List ℕ 
       inr (failed.1, failed_rose (state old).held r.«module» (state old).faults (state between).faults (tells old between r.«module» most_bytes Fails failed.0).told)
   one_over files number r old between one holds (inr (answer, given, is)) =
       let law = tells old between r.«module» most_bytes (Gives answer) given in
-      let told : option_map (take (most_bytes + 1)) (files r.«module») ≡ answer =
-      subst (λ held. IsTold held r.«module» most_bytes (state old).faults (state between).faults (Gives answer)) holds law.told in
-      inl (is ∙ answer_whole number r (files r.«module») answer told)
+      let told = subst (λ held. IsTold held r.«module» most_bytes (state old).faults (state between).faults (Gives answer)) holds law.told in
+      inl (is ∙ answer_whole number r (files r.«module») answer (told_file files r.«module» most_bytes (state old).faults (state between).faults answer told))
 
   pub loads_over : (files : Files) (first : ℕ) (routes : List Route) (old new : L) (came : Result (List Program) Unloaded) → (state old).held ≡ Some files → LoadsAll gave first routes old new came
       → (came ≡ loaded files first routes) ⊎ HasFailed came (state old).faults (state new).faults

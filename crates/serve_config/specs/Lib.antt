@@ -4,6 +4,7 @@ pub mod Letters
 pub mod Kinds
 pub mod Configuration
 pub mod Overview
+pub mod Whole
 pub mod Objects
 pub mod Walk
 pub mod Ranges

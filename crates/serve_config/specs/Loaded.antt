@@ -6,17 +6,9 @@ use Rattle.std.specs.declared.sync.Arc.{Arc}
 use Rattle.outside.specs.Faults.{Rose}
 use Rattle.wasm_meaning.specs.Programs.{Program}
 use Rattle.serve_config.specs.declared.tenants.Route.{Route}
-use Rattle.serve_config.specs.Loading.{Unfit, Unloaded, NotRead, IsUnfit}
+use Rattle.serve_config.specs.Loading.{Unloaded, NotRead, IsUnfit}
 use Rattle.serve_config.specs.declared.load_faults.LoadFault.{LoadFault}
 use Rattle.serve_config.specs.declared.load_faults.LoadFault.TheVariants.{Read, Module, NoMemory}
-use Rattle.serve_config.specs.declared.load_faults.Unmade.{Unmade}
-use Rattle.serve_config.specs.declared.load_faults.Unmade.TheVariants as unmade
-
--- this came of it, or memory ran out
-abbrev pub IsMade : Result Program Unmade → Result Program Unfit → Type 0
-IsMade (Ok program) due = due ≡ Ok program
-IsMade (Err (unmade.Unfit number place)) due = due ≡ Err (record { number = number; place = place })
-IsMade (Err unmade.NoMemory) due = Unit {0}
 
 -- this holds of what is answered, or memory ran out
 abbrev pub IsLoaded : {A B : Type 0} → (A → B) → Result A LoadFault → (Result B Unloaded → Type 0) → Type 0

@@ -5,11 +5,26 @@ ghost use Rattle.outside.specs.Library.{Files};
 ghost use Rattle.wasm_meaning.specs.Programs.{Program};
 ghost use Rattle.serve_config.specs.declared.tenants.Route.{Route as RouteValue};
 ghost use Rattle.serve_config.specs.declared.tenants.Tenant.{Tenant as TenantValue};
+ghost use Rattle.serve_config.specs.Configuration.{Configuration};
+ghost use Rattle.serve_config.specs.Ranges.{IsInRange};
+ghost use Rattle.serve_config.specs.Overview.{first_fault};
+ghost use Rattle.serve_config.specs.Whole.{IsWhole};
+ghost use Rattle.serve_config.specs.Reading.{configuration};
 ghost use Rattle.serve_config.specs.Loaded.{HasFailed};
 ghost use Rattle.serve_config.specs.Loading.{HavePrograms, IsFirstWithNone, LoadsAll, NotRead, Unloaded, loaded};
 ghost use Rattle.serve_config.specs.Routing.{HasNumber, route_number};
 
 use outside::Library;
+
+/// What is accepted as a configuration has each of its numbers and texts in the range that `docs/FORMATS.md` names, 1 to 64 tenants and as many routes a tenant among them (`IsInRange`). Nothing is wrong with it as a whole: at most 64 routes together, no name, port or path of a tenant twice, the letters of paths and content types, and memories of at most 1 GiB (`IsWhole`). So it is one that a `Config` may be.
+pub fn configurations_fit()
+    ensures in_range { (bytes : List ℕ) (c : Configuration)
+        → configuration bytes ≡ Ok c → IsInRange c }
+    ensures faultless { (bytes : List ℕ) (c : Configuration)
+        → configuration bytes ≡ Ok c → first_fault c.berths c.tenants ≡ None }
+    ensures whole { (bytes : List ℕ) (c : Configuration)
+        → configuration bytes ≡ Ok c → IsWhole c }
+{}
 
 /// The number of a path's route is its place among the routes of all tenants, and the route there has the path.
 pub fn routes_are_numbered()

@@ -2,13 +2,14 @@
 ghost use Rattle.std.specs.Prelude.{◌≡◌, ◌≤◌, IfErr};
 ghost use Rattle.std.specs.Arc.{arc_value};
 ghost use Rattle.serve_config.specs.Routing.{all_routes};
-ghost use Rattle.serve_config.specs.Loading.{program_of as program_due, fit, Loads, LoadsAll};
+ghost use Rattle.module_files.specs.FilePrograms.{program_of as program_due};
+ghost use Rattle.serve_config.specs.Loading.{fit, Loads, LoadsAll};
 ghost use Rattle.serve_config.specs.Loaded.{IsLoaded, IsOf, IsAmong, programs_in};
 
 use crate::configs::Config;
-use crate::load_faults::{LoadFault, Unmade};
-use crate::modules::program_of;
+use crate::load_faults::LoadFault;
 use crate::tenants::Route;
+use module_files::{Unmade, program_of};
 use outside::{Fetch, Library};
 use std::alloc::Global;
 use std::sync::Arc;

@@ -1,29 +1,11 @@
-//! The program: the top calls, and `main`, which hands them the real outside.
+//! The program: `main`, which hands the words of its command line and the real outside to `run`.
 #![tactic(auto)]
 
-pub mod check_laws;
-mod checking;
-mod command;
-mod delivery;
-mod ending;
-mod execution;
-pub mod laws;
-mod planning;
-pub mod replay_laws;
-mod replaying;
-pub mod soak_laws;
-mod soaking;
-mod status;
-#[cfg(test)]
-mod tests;
-mod texts;
-mod top;
-
+use commands::{out_of_memory, run};
 use outside::{FileLibrary, OpenGate, StdNotes, StdSink};
 use std::env;
 use std::io::{self, ErrorKind};
 use std::process::ExitCode;
-use top::{out_of_memory, run};
 
 /// Carries out the command of the words after the program's own name, over the real files and
 /// streams. A word that is not UTF-8 is answered like words of no shape.

@@ -2,7 +2,7 @@
 //!
 //! A line of the file is `turns MODULE BODY BUDGET QUANTUM`, which asks for the answer to a request in turns of this quantum; `fresh MODULE PAGES`, which asks for the state in which the module begins with so many pages; or `repeat MODULE PAGES COUNT`, which answers so many requests without a body on one vessel of so many pages. Modules and bodies stand in hexadecimal, `-` for no bytes.
 //! The requests of `turns` run on one vessel of 256 pages, so each begins on what the one before it left behind.
-//! `tests/turns.py` and `tests/fresh_states.py` make the cases, and compute from the standard alone what must be printed of them. The program stands on `sandbox_states` and what is below it.
+//! `tests/turns_table.py` and `tests/lib/fresh_states.py` make the cases, and compute from the standard alone what must be printed of them. The program stands on `sandbox_states` and what is below it.
 #![tactic(auto)]
 
 mod cases;

@@ -1,6 +1,6 @@
 //! Reads modules, a line each in hexadecimal, and prints whether they are valid: the operand height and the block depth of each body, or the number, the body and the item of the first rule that is broken.
 //!
-//! `stdin` and `stdout` are what `tests/validity.py` makes of its tables. It stands on `wasm_reader` and `wasm_validate`.
+//! `stdin` and `stdout` are what `tests/validity_table.py` makes of its tables. It stands on `wasm_reader` and `wasm_validate`.
 #![tactic(auto)]
 
 use std::alloc::Global;

@@ -12,7 +12,7 @@ use wasm_ops::{HostCall, HostName};
 use wasm_store::Vessel;
 
 /// What a call of the host came to.
-#[derive(Clone, Copy, Debug, PartialEq, Eq)]
+#[derive(Clone, Copy)]
 pub enum HostStep {
     /// It came back with its error number, 0 where it succeeded, at this price in units.
     Went(u64),

@@ -19,13 +19,23 @@ pub const MOST_IOVECS: u32 = 1_024;
 /// The body of a request, how many of its bytes have been read, and what has been written for the reply: the standard input and the standard output of a running function.
 ///
 /// All the room that the reply can need is taken when they are made, so that no call of the host takes memory. They cannot be cloned.
-#[derive(Drop)]
 pub struct Streams {
     body: Vec<u8>,
     position: u32,
     reply: Vec<u8>,
     // The iovecs of a call that may overwrite their array. No call reads what an earlier one left there.
     iovecs: Vec<Iovec>,
+}
+
+impl Drop for Streams {
+    fn drop(self) {
+        let Streams {
+            body: _,
+            position: _,
+            reply: _,
+            iovecs: _,
+        } = self;
+    }
 }
 
 impl Model for Streams {
@@ -40,9 +50,14 @@ impl Model for Streams {
 }
 
 /// The bytes of a reply, at most 65,536. They cannot be cloned.
-#[derive(Drop)]
 pub struct Reply {
     bytes: Vec<u8>,
+}
+
+impl Drop for Reply {
+    fn drop(self) {
+        let Reply { bytes: _ } = self;
+    }
 }
 
 impl Model for Reply {
@@ -92,11 +107,17 @@ impl Streams {
     pub fn into_reply(self) -> Reply
         ensures { result ≡ self.reply }
     {
-        Reply { bytes: self.reply }
+        let Streams {
+            body: _,
+            position: _,
+            reply: bytes,
+            iovecs: _,
+        } = self;
+        Reply { bytes }
     }
 
     /// How many bytes of the body have not been read.
-    pub fn unread(&self) -> u32
+    pub(crate) fn unread(&self) -> u32
         ensures count { result ≡ length (drop self.now.position self.now.body) }
         ensures most { result ≤ 2 ^ 20 }
     {
@@ -104,7 +125,7 @@ impl Streams {
     }
 
     /// How many bytes of the reply have been written.
-    pub fn written(&self) -> u32
+    pub(crate) fn written(&self) -> u32
         ensures count { result ≡ length self.now.reply }
         ensures most { result ≤ 65536 }
     {
@@ -112,7 +133,7 @@ impl Streams {
     }
 
     /// Adds bytes to the reply.
-    pub fn append(&mut self, bytes: &[u8])
+    pub(crate) fn append(&mut self, bytes: &[u8])
         requires { length self.old.reply + length bytes.now ≤ 65536 }
         ensures { self.new ≡ record self.old { reply = self.old.reply ++ bytes.now } }
     {
@@ -123,7 +144,7 @@ impl Streams {
     }
 
     /// The next bytes of the body.
-    pub fn next_bytes(&self, count: u32) -> &[u8]
+    pub(crate) fn next_bytes(&self, count: u32) -> &[u8]
         requires { count ≤ length (drop self.now.position self.now.body) }
         ensures { result.now ≡ take count (drop self.now.position self.now.body) }
     {
@@ -133,7 +154,7 @@ impl Streams {
     }
 
     /// Passes over bytes of the body.
-    pub fn pass(&mut self, count: u32)
+    pub(crate) fn pass(&mut self, count: u32)
         requires { count ≤ length (drop self.old.position self.old.body) }
         ensures { self.new ≡ record self.old { position = self.old.position + count } }
     {
@@ -143,7 +164,7 @@ impl Streams {
     /// Lays the next bytes of the body in the buffers of a call, all of whose iovecs are read first.
     #[cold]
     #[inline(never)]
-    pub fn scatter_saved(&mut self, call: StreamCall, vessel: &mut Vessel, count: u32)
+    pub(crate) fn scatter_saved(&mut self, call: StreamCall, vessel: &mut Vessel, count: u32)
         requires few { call.count ≤ 1024 }
         requires reaches { reaches vessel.old.memory (transfer_for call) ≡ true }
         requires bytes { count ≤ length (drop self.old.position self.old.body) }

@@ -7,7 +7,7 @@ use std::fmt::{self, Display, Formatter, Write};
 use wasm_ops::Fault;
 
 /// Why a reader answers nothing. It shows itself as what a maker of modules reads of it.
-#[derive(Clone, Copy, Debug, PartialEq, Eq)]
+#[derive(Clone, Copy)]
 pub enum CodeFault {
     /// The bytes spell none: the number of the refusal, and its place counted from the first byte.
     ///

@@ -21,6 +21,3 @@ mod value_types;
 pub use bodies::read_body;
 pub use faults::CodeFault;
 pub use value_types::value_type;
-
-#[cfg(test)]
-mod tests;

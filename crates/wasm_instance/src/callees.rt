@@ -3,7 +3,7 @@
 use wasm_ops::HostName;
 
 /// How much room a call of a function takes that the module defines (WebAssembly Core 1.0, sections 4.2.12 and 4.4.7).
-#[derive(Clone, Copy, Debug, PartialEq, Eq)]
+#[derive(Clone, Copy)]
 pub struct Shape {
     /// The cells of a call: parameters, declared locals, the operands at their greatest number, and one for each block that is open at the deepest place.
     pub cells: u64,
@@ -19,7 +19,7 @@ pub struct Shape {
 }
 
 /// A function that is called.
-#[derive(Clone, Copy, Debug, PartialEq, Eq)]
+#[derive(Clone, Copy)]
 pub enum Callee {
     /// A function of the host.
     Host(HostName),

@@ -6,7 +6,7 @@ use std::alloc::{AllocError, AllocFailed};
 use wasm_meaning::Unlinked;
 
 /// Why `link` answers no program.
-#[derive(Clone, Copy, Debug, PartialEq, Eq)]
+#[derive(Clone, Copy)]
 pub enum LinkFault {
     /// The first rule of linking that the module breaks, and the index of the item that breaks it (`wasm_meaning::LinkRule`, whose numbers are 50 to 56).
     Refused(Unlinked),

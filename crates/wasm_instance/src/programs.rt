@@ -60,7 +60,6 @@ fn greatest(pages: u32, memories: &[Limits]) -> u32
 /// A valid module that is linked to the host, and the pages that it is given. Contracts see it as these two.
 ///
 /// It has at one place what a call of a function needs. Functions are numbered as in the module, where the imported ones come first; bodies count from 0, without the imported functions.
-#[derive(Drop)]
 pub struct Program {
     valid: Valid,
     pages: u32,
@@ -69,6 +68,20 @@ pub struct Program {
     shapes: Vec<Shape>,
     start: Option<u32>,
     entry: Option<u32>,
+}
+
+impl Drop for Program {
+    fn drop(self) {
+        let Program {
+            valid: _,
+            pages: _,
+            most: _,
+            hosts: _,
+            shapes: _,
+            start: _,
+            entry: _,
+        } = self;
+    }
 }
 
 impl Model for Program {

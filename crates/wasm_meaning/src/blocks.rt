@@ -3,7 +3,7 @@
 use wasm_ops::ValType;
 
 /// Which instruction a sequence stands in, and in which part of it (WebAssembly Core 1.0, section 2.4.5).
-#[derive(Clone, Copy, Debug, PartialEq, Eq)]
+#[derive(Clone, Copy)]
 pub enum BlockKind {
     /// In a `block`, or it is a whole body.
     BlockBody,
@@ -19,7 +19,7 @@ pub enum BlockKind {
 }
 
 /// The type of a global (section 2.3.5).
-#[derive(Clone, Copy, Debug, PartialEq, Eq)]
+#[derive(Clone, Copy)]
 pub struct GlobalType {
     /// The type of its value.
     pub value: ValType,

@@ -3,7 +3,7 @@ ghost use Rattle.std.specs.Prelude.{◌≡◌};
 ghost use Rattle.wasm_meaning.specs.LinkRules.{link_number};
 
 /// A rule of linking, which is named by how it is broken.
-#[derive(Clone, Copy, Debug, PartialEq, Eq)]
+#[derive(Clone, Copy)]
 pub enum LinkRule {
     /// An imported function is one of the host's.
     UnknownImport,
@@ -45,7 +45,7 @@ impl LinkRule {
 }
 
 /// The rule that a module breaks first where it is linked, and the index of the item in its list: 0 where it is no item of a list.
-#[derive(Clone, Copy, Debug, PartialEq, Eq)]
+#[derive(Clone, Copy)]
 pub struct Unlinked {
     /// The rule.
     pub rule: LinkRule,

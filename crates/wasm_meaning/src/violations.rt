@@ -3,7 +3,7 @@ ghost use Rattle.std.specs.Prelude.{◌≡◌};
 ghost use Rattle.wasm_meaning.specs.ValidityRules.{rule_number};
 
 /// A rule of validation, which is named by how it is broken.
-#[derive(Clone, Copy, Debug, PartialEq, Eq)]
+#[derive(Clone, Copy)]
 pub enum Rule {
     /// There is an item with each index that is named, and a table or a memory where an operator needs one.
     UnknownIndex,
@@ -73,7 +73,7 @@ impl Rule {
 }
 
 /// A rule that a body breaks, and where.
-#[derive(Clone, Copy, Debug, PartialEq, Eq)]
+#[derive(Clone, Copy)]
 pub struct Violation {
     /// The rule.
     pub rule: Rule,
@@ -83,7 +83,7 @@ pub struct Violation {
 }
 
 /// The first rule that a module breaks, and where.
-#[derive(Clone, Copy, Debug, PartialEq, Eq)]
+#[derive(Clone, Copy)]
 pub struct Broken {
     /// The number of the rule.
     pub number: u8,

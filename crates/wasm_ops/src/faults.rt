@@ -5,7 +5,7 @@ ghost use Rattle.wasm_ops.specs.Refusals.{number_of, fault_at};
 use std::fmt::{self, Display, Formatter, Write};
 
 /// Why bytes are refused as a module or as a part of one. Each refusal has a number, by which a reply names it.
-#[derive(Clone, Copy, Debug, PartialEq, Eq)]
+#[derive(Clone, Copy, Debug)]
 pub enum Refusal {
     /// The bytes end within an item.
     CutShort,
@@ -81,7 +81,7 @@ pub enum Refusal {
 }
 
 /// Why bytes are refused, and where.
-#[derive(Clone, Copy, Debug, PartialEq, Eq)]
+#[derive(Clone, Copy, Debug)]
 pub struct Fault {
     /// The number of the refusal.
     pub number: u8,

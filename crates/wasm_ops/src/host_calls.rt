@@ -1,7 +1,7 @@
 //! Calls of the host's functions (WASI preview1).
 
 /// A function of the host that a module may import from `wasi_snapshot_preview1`.
-#[derive(Clone, Copy, Debug, PartialEq, Eq)]
+#[derive(Clone, Copy, Debug)]
 pub enum HostName {
     /// `fd_read`: reads from a file descriptor into buffers.
     FdRead,
@@ -14,7 +14,7 @@ pub enum HostName {
 }
 
 /// A call of a function of the host, with its arguments.
-#[derive(Clone, Copy, Debug, PartialEq, Eq)]
+#[derive(Clone, Copy, Debug)]
 pub struct HostCall {
     /// The function.
     pub name: HostName,

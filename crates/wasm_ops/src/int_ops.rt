@@ -9,7 +9,7 @@ use std::marker::Model;
 /// An integer operator. Contracts see it as its byte in the binary format (section 5.4.5).
 ///
 /// `operation` says what it does; with that come how many operands it takes and of which types.
-#[derive(Clone, Copy, Debug, PartialEq, Eq)]
+#[derive(Clone, Copy, Debug)]
 pub struct IntOp {
     byte: u8,
 }

@@ -38,8 +38,3 @@ pub use operations::{Arithmetic, BitCount, Operation, Relation};
 pub use operators::Op;
 pub use traps::Trap;
 pub use types::{Access, FuncType, Limits, ValType};
-
-#[cfg(test)]
-mod cursor_tests;
-#[cfg(test)]
-mod tests;

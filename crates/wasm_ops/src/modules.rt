@@ -8,7 +8,7 @@ use crate::operators::Op;
 use crate::types::{FuncType, Limits, ValType};
 
 /// The body of a function.
-#[derive(Debug, PartialEq, Eq, Drop)]
+#[derive(Debug)]
 pub struct Body {
     /// The types of the declared locals, without the parameters.
     pub locals: Items<ValType>,
@@ -20,8 +20,18 @@ pub struct Body {
     pub targets: Items<u32>,
 }
 
+impl Drop for Body {
+    fn drop(self) {
+        let Body {
+            locals: _,
+            ops: _,
+            targets: _,
+        } = self;
+    }
+}
+
 /// A module.
-#[derive(Debug, PartialEq, Eq, Drop)]
+#[derive(Debug)]
 pub struct Module {
     /// The function types.
     pub types: Items<FuncType>,
@@ -57,8 +67,26 @@ pub struct Module {
     pub segments: Items<ByteSegment>,
 }
 
+impl Drop for Module {
+    fn drop(self) {
+        let Module {
+            types: _,
+            imports: _,
+            functions: _,
+            tables: _,
+            memories: _,
+            globals: _,
+            exports: _,
+            start: _,
+            elements: _,
+            bodies: _,
+            segments: _,
+        } = self;
+    }
+}
+
 /// An import: two names and what they stand for.
-#[derive(Debug, PartialEq, Eq, Drop)]
+#[derive(Debug)]
 pub struct Import {
     /// The name of the module that it comes from.
     pub module: Name,
@@ -70,8 +98,18 @@ pub struct Import {
     pub item: ImportItem,
 }
 
+impl Drop for Import {
+    fn drop(self) {
+        let Import {
+            module: _,
+            name: _,
+            item: _,
+        } = self;
+    }
+}
+
 /// What an import asks for.
-#[derive(Clone, Copy, Debug, PartialEq, Eq)]
+#[derive(Clone, Copy, Debug)]
 pub enum ImportItem {
     /// A function of the type with this index.
     Function(u32),
@@ -87,7 +125,7 @@ pub enum ImportItem {
 }
 
 /// A global that the module defines.
-#[derive(Clone, Copy, Debug, PartialEq, Eq)]
+#[derive(Clone, Copy, Debug)]
 pub struct GlobalDef {
     /// Its type.
     pub value: ValType,
@@ -100,7 +138,7 @@ pub struct GlobalDef {
 }
 
 /// A constant, as a constant expression of one `const` operator gives it.
-#[derive(Clone, Copy, Debug, PartialEq, Eq)]
+#[derive(Clone, Copy, Debug)]
 pub struct Constant {
     /// Its type.
     pub value: ValType,
@@ -110,7 +148,7 @@ pub struct Constant {
 }
 
 /// An export.
-#[derive(Debug, PartialEq, Eq, Drop)]
+#[derive(Debug)]
 pub struct Export {
     /// The name.
     pub name: Name,
@@ -122,8 +160,18 @@ pub struct Export {
     pub index: u32,
 }
 
+impl Drop for Export {
+    fn drop(self) {
+        let Export {
+            name: _,
+            kind: _,
+            index: _,
+        } = self;
+    }
+}
+
 /// An element segment: functions that are laid into a table.
-#[derive(Debug, PartialEq, Eq, Drop)]
+#[derive(Debug)]
 pub struct ElementSegment {
     /// The table's index.
     pub table: u32,
@@ -135,8 +183,18 @@ pub struct ElementSegment {
     pub functions: Items<u32>,
 }
 
+impl Drop for ElementSegment {
+    fn drop(self) {
+        let ElementSegment {
+            table: _,
+            offset: _,
+            functions: _,
+        } = self;
+    }
+}
+
 /// A data segment: bytes that are laid into a memory.
-#[derive(Debug, PartialEq, Eq, Drop)]
+#[derive(Debug)]
 pub struct ByteSegment {
     /// The memory's index.
     pub memory: u32,
@@ -146,4 +204,14 @@ pub struct ByteSegment {
 
     /// The bytes.
     pub bytes: Items<u8>,
+}
+
+impl Drop for ByteSegment {
+    fn drop(self) {
+        let ByteSegment {
+            memory: _,
+            offset: _,
+            bytes: _,
+        } = self;
+    }
 }

@@ -6,9 +6,15 @@ ghost use Rattle.std.specs.Cmp.Lexicographic.{pointwise, nat_list_eq_equiv};
 use std::marker::Model;
 
 /// A name: any text. Contracts see it as the list of its bytes in UTF-8.
-#[derive(Debug, Drop)]
+#[derive(Debug)]
 pub struct Name {
     text: String,
+}
+
+impl Drop for Name {
+    fn drop(self) {
+        let Name { text: _ } = self;
+    }
 }
 
 impl Model for Name {
@@ -33,19 +39,4 @@ impl Name {
     {
         self.text.as_str()
     }
-}
-
-/// Two names are equal where their bytes are.
-impl PartialEq for Name {
-    ghost eq = { pointwise nat_eq };
-
-    ghost laws = { partial_equiv_from_equiv nat_list_eq_equiv };
-
-    fn eq(&self, other: &Self) -> bool {
-        self.as_str() == other.as_str()
-    }
-}
-
-impl Eq for Name {
-    ghost laws = { nat_list_eq_equiv };
 }

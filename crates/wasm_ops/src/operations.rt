@@ -7,7 +7,7 @@ use crate::ValType;
 /// A comparison of two integers (`irelop` of the standard).
 ///
 /// `S` says that both are read as signed numbers, `U` that neither is.
-#[derive(Clone, Copy, Debug, PartialEq, Eq)]
+#[derive(Clone, Copy, Debug)]
 pub enum Relation {
     /// The first is the second.
     Eq,
@@ -41,7 +41,7 @@ pub enum Relation {
 }
 
 /// A count of an integer's bits (`iunop` of the standard).
-#[derive(Clone, Copy, Debug, PartialEq, Eq)]
+#[derive(Clone, Copy, Debug)]
 pub enum BitCount {
     /// The zeros above the highest one: all bits of 0.
     Clz,
@@ -56,7 +56,7 @@ pub enum BitCount {
 /// An operation that makes an integer of two of its type, or traps (`ibinop` of the standard).
 ///
 /// `S` says that the operands are read as signed numbers, `U` that they are not.
-#[derive(Clone, Copy, Debug, PartialEq, Eq)]
+#[derive(Clone, Copy, Debug)]
 pub enum Arithmetic {
     /// The sum, modulo 2^32 or 2^64.
     Add,
@@ -105,7 +105,7 @@ pub enum Arithmetic {
 }
 
 /// What an integer operator does, and at which type.
-#[derive(Clone, Copy, Debug, PartialEq, Eq)]
+#[derive(Clone, Copy, Debug)]
 pub enum Operation {
     /// Whether the operand is 0.
     Eqz(ValType),

@@ -7,7 +7,7 @@ use crate::types::{Access, ValType};
 ///
 /// `end` and `other` are places in the body's `ops`.
 /// Labels count the enclosing blocks outwards, and 0 is the inmost one.
-#[derive(Clone, Copy, Debug, PartialEq, Eq)]
+#[derive(Clone, Copy, Debug)]
 pub enum Op {
     /// `unreachable`: always traps.
     Unreachable,

@@ -3,7 +3,7 @@ ghost use Rattle.std.specs.Prelude.{◌≡◌};
 ghost use Rattle.wasm_ops.specs.Traps.{trap_text};
 
 /// Why a run was ended by a trap.
-#[derive(Clone, Copy, Debug, PartialEq, Eq)]
+#[derive(Clone, Copy, Debug)]
 pub enum Trap {
     /// The operator `unreachable`.
     Unreachable,

@@ -5,7 +5,7 @@ use crate::lists::Items;
 /// The type of a value: WebAssembly's integer types.
 ///
 /// A value is a `u64`, and one of type `I32` is below 2^32.
-#[derive(Clone, Copy, Debug, PartialEq, Eq)]
+#[derive(Clone, Copy, Debug)]
 pub enum ValType {
     /// `i32`
     I32,
@@ -15,7 +15,7 @@ pub enum ValType {
 }
 
 /// A function's type: its parameters in order, and its result, of which there is at most one.
-#[derive(Debug, PartialEq, Eq, Drop)]
+#[derive(Debug)]
 pub struct FuncType {
     /// The parameters' types, the first one first.
     pub params: Items<ValType>,
@@ -24,8 +24,17 @@ pub struct FuncType {
     pub result: Option<ValType>,
 }
 
+impl Drop for FuncType {
+    fn drop(self) {
+        let FuncType {
+            params: _,
+            result: _,
+        } = self;
+    }
+}
+
 /// What a load or a store moves between the memory and a value.
-#[derive(Clone, Copy, Debug, PartialEq, Eq)]
+#[derive(Clone, Copy, Debug)]
 pub struct Access {
     /// The type of the value.
     pub value: ValType,
@@ -39,7 +48,7 @@ pub struct Access {
 }
 
 /// The size of a table in elements or of a memory in pages of 64 KiB: the least, which is also the first, and the greatest (section 2.3.4).
-#[derive(Clone, Copy, Debug, PartialEq, Eq)]
+#[derive(Clone, Copy, Debug)]
 pub struct Limits {
     /// The size at the start.
     pub least: u32,

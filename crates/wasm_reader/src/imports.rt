@@ -21,7 +21,7 @@ pub(crate) const MOST_FUNCTIONS: u32 = 10_000;
 pub(crate) const MOST_GLOBALS: u32 = 1_000;
 
 /// What an import is, as its kind byte says (section 5.5.5).
-#[derive(Clone, Copy, Debug, PartialEq, Eq)]
+#[derive(Clone, Copy)]
 pub(crate) enum ImportKind {
     /// A function (00).
     Function,

@@ -17,6 +17,3 @@ mod vectors;
 pub use modules::{MOST_BYTES, read_module};
 /// Why `read_module` answers no module: the places are counted from the file's first byte, and the refusal is any of `Refusal`.
 pub use wasm_code::CodeFault as ReadFault;
-
-#[cfg(test)]
-mod tests;

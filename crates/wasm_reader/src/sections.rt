@@ -18,7 +18,7 @@ use wasm_ops::{Cursor, Fault, Items, Module, Refusal};
 const MOST_TYPES: u32 = 1_000;
 
 /// A part of a module that stands in a section of its own, in the order of the sections' ids (section 5.5.2).
-#[derive(Clone, Copy, Debug, PartialEq, Eq)]
+#[derive(Clone, Copy)]
 pub(crate) enum Part {
     /// Function types (id 1).
     Types,
@@ -75,7 +75,7 @@ impl Part {
 }
 
 /// What a section holds.
-#[derive(Clone, Copy, Debug, PartialEq, Eq)]
+#[derive(Clone, Copy)]
 pub(crate) enum Section {
     /// A name, and bytes that mean nothing to the module (id 0).
     Custom,
@@ -107,7 +107,7 @@ impl Section {
 }
 
 /// What has been read of a module.
-#[derive(Debug, Drop)]
+#[derive(Drop)]
 pub(crate) struct Progress {
     /// What the last section held that is not custom, if there is one yet.
     pub(crate) last: Option<Part>,

@@ -388,12 +388,21 @@ module _ (p : Program) (v : View) (type : ℕ) (at : IsAt p v (op.CallIndirect t
           there_of name 1 v.cells (cells_under st.frame.locals around) top.under taken cells indirect_some takes (under_ranged I32 st.operands top takes_top r.typing.ranged)
 
   -- which function of the host the operator calls
+  pub indirect_through
+      : (place : ℕ) → slice_get v.cells 0 ≡ Some place → (element : Option (Option ℕ)) → slice_get v.table place ≡ element
+      → asked_by p (before v) (Some (op.CallIndirect type)) ≡ host_through p type element
+  indirect_through place top element found =
+      ap (λ (o : Option ℕ). host_through p type (element_on_top v.table o)) top
+      ∙ ap (λ (o : Option (Option ℕ)). host_through p type o) found
+
+  pub indirect_asked : (index : ℕ) → Element index → (b : Bool) → is_of_type p index type ≡ b → asked_by p (before v) (Some (op.CallIndirect type)) ≡ cond b (host_of (called p index)) None
+  indirect_asked index e b same =
+      indirect_through e.place e.top (Some (Some index)) e.found
+      ∙ ap (λ (x : Bool). cond x (host_of (called p index)) None) same
+
   pub indirect_next : (index : ℕ) → Element index → (b : Bool) → is_of_type p index type ≡ b → host_next p (before v) ≡ cond b (host_of (called p index)) None
   indirect_next index e b same =
-      ap (λ (x : Option Op). asked_by p (before v) x) at.here
-      ∙ ap (λ (o : Option ℕ). host_through p type (element_on_top v.table o)) e.top
-      ∙ ap (λ (o : Option (Option ℕ)). host_through p type o) e.found
-      ∙ ap (λ (x : Bool). cond x (host_of (called p index)) None) same
+      ap (λ (x : Option Op). asked_by p (before v) x) at.here ∙ indirect_asked index e b same
 
   pub indirect_hosts
       : (index : ℕ) (name : HostName) (v' : View) (answer : Step) → Element index → is_of_type p index type ≡ true → called p index ≡ Some (kept.Host name) → Asks v name true v' answer

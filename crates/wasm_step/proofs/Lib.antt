@@ -4,6 +4,7 @@ pub mod ControlArms
 pub mod EntryArms
 pub mod Going
 pub mod MemoryMoves
+pub mod NextLaws
 pub mod NumericMoves
 pub mod Shapes
 pub mod StepLaws

@@ -3,3 +3,4 @@ pub mod Arms
 pub mod Asking
 pub mod Does
 pub mod Means
+pub mod Next

@@ -3,7 +3,7 @@
 use wasm_ops::{HostCall, Trap};
 
 /// What became of a running function by one step.
-#[derive(Clone, Copy, Debug, PartialEq, Eq)]
+#[derive(Clone, Copy)]
 pub enum Step {
     /// An operator ran, and cost so many units.
     Went(u64),

@@ -6,6 +6,7 @@ ghost use Rattle.wasm_states.specs.HostCalls.{places_of};
 ghost use Rattle.wasm_step.specs.Arms.{IsAt, before};
 ghost use Rattle.wasm_step.specs.Arguments.{ArgumentsThere, AreArguments, Asks, Enters};
 ghost use Rattle.wasm_step.specs.Does.{Calls};
+ghost use Rattle.wasm_step.specs.Next.{AnswersTo};
 
 use crate::answers::Step;
 use crate::entries::{enter, has_room};
@@ -18,6 +19,7 @@ use wasm_store::Vessel;
 pub(crate) fn call(program: &Program, vessel: &mut Vessel, index: u32) -> Step
     requires at { IsAt program.now vessel.old (op.Call index) }
     ensures calls { Calls program.now (before vessel.old) vessel.new result }
+    ensures next { AnswersTo program.now (before vessel.old) 1 (Some (op.Call index)) result }
     ensures pages { vessel.new.pages ≡ vessel.old.pages }
 {
     match program.callee(index) {
@@ -32,6 +34,7 @@ pub(crate) fn call(program: &Program, vessel: &mut Vessel, index: u32) -> Step
 pub(crate) fn call_indirect(program: &Program, vessel: &mut Vessel, type_index: u32) -> Step
     requires at { IsAt program.now vessel.old (op.CallIndirect type_index) }
     ensures calls { Calls program.now (before vessel.old) vessel.new result }
+    ensures next { AnswersTo program.now (before vessel.old) 1 (Some (op.CallIndirect type_index)) result }
     ensures pages { vessel.new.pages ≡ vessel.old.pages }
 {
     match vessel.element(vessel.operand(0) as u32) {
@@ -53,6 +56,7 @@ fn call_element(program: &Program, vessel: &mut Vessel, type_index: u32, index: 
     requires at { IsAt program.now vessel.old (op.CallIndirect type_index) }
     requires element { (place : ℕ) → slice_get vessel.old.cells 0 ≡ Some place → slice_get vessel.old.table place ≡ Some (Some index) }
     ensures calls { Calls program.now (before vessel.old) vessel.new result }
+    ensures next { AnswersTo program.now (before vessel.old) 1 (Some (op.CallIndirect type_index)) result }
     ensures pages { vessel.new.pages ≡ vessel.old.pages }
 {
     if !program.is_of_type(index, type_index) {

@@ -6,6 +6,7 @@ ghost use Rattle.wasm_states.specs.Blocks.{block_label};
 ghost use Rattle.wasm_states.specs.Leaving.{CanBranch, CanLeave, branch_view, leave_view};
 ghost use Rattle.wasm_step.specs.Arms.{Acts, IsAt, before};
 ghost use Rattle.wasm_step.specs.Does.{Ends};
+ghost use Rattle.wasm_step.specs.Next.{AtEnd, GoesFree};
 
 use crate::answers::Step;
 use crate::entries::next_entry;
@@ -95,6 +96,7 @@ fn open_part(vessel: &mut Vessel, gives: Option<ValType>, end: u32)
 pub(crate) fn go_past(_program: &Program, vessel: &mut Vessel, end: u32) -> Step
     requires at { IsAt _program.now vessel.old (op.Else end) }
     ensures ends { Ends _program.now (before vessel.old) vessel.new result }
+    ensures next { GoesFree result }
     ensures pages { vessel.new.pages ≡ vessel.old.pages }
 {
     vessel.close_blocks(1);
@@ -107,6 +109,7 @@ pub(crate) fn go_past(_program: &Program, vessel: &mut Vessel, end: u32) -> Step
 pub(crate) fn end(program: &Program, vessel: &mut Vessel) -> Step
     requires at { IsAt program.now vessel.old op.End }
     ensures ends { Ends program.now (before vessel.old) vessel.new result }
+    ensures next { AtEnd vessel.old.frames vessel.old.entries result }
     ensures pages { vessel.new.pages ≡ vessel.old.pages }
 {
     if vessel.depth() == 0 {

@@ -5,6 +5,7 @@ ghost use Rattle.wasm_states.specs.Calling.{has_room_for, call_view};
 ghost use Rattle.wasm_states.specs.Holding.{IsState};
 ghost use Rattle.wasm_step.specs.Arms.{IsAt, before};
 ghost use Rattle.wasm_step.specs.Does.{Ends};
+ghost use Rattle.wasm_step.specs.Next.{AtRest, EntersFree};
 
 use crate::answers::Step;
 use wasm_instance::Program;
@@ -47,6 +48,7 @@ pub(crate) fn next_entry(program: &Program, vessel: &mut Vessel) -> Step
     requires at { IsAt program.now vessel.old op.End }
     requires rests { length vessel.old.frames ≡ 0 }
     ensures ends { Ends program.now (before vessel.old) vessel.new result }
+    ensures next { AtRest vessel.old.entries result }
     ensures pages { vessel.new.pages ≡ vessel.old.pages }
 {
     let place = vessel.place() - 1;
@@ -63,6 +65,7 @@ fn enter_from_outside(program: &Program, vessel: &mut Vessel, body: u32) -> Step
     requires rests { length vessel.old.frames ≡ 0 }
     requires next { slice_get vessel.old.entries 0 ≡ Some body }
     ensures ends { Ends program.now vessel.old vessel.new result }
+    ensures next { EntersFree result }
     ensures pages { vessel.new.pages ≡ vessel.old.pages }
 {
     let shape = program.shape(body);

@@ -5,6 +5,7 @@ ghost use Rattle.wasm_states.specs.Holding.{IsState};
 ghost use Rattle.wasm_step.specs.Arms.{IsAt, before};
 ghost use Rattle.wasm_step.specs.Asking.{asked_by};
 ghost use Rattle.wasm_step.specs.Does.{Does, IsPriced};
+ghost use Rattle.wasm_step.specs.Next.{AnswersNext, AnswersTo};
 
 use crate::answers::Step;
 use crate::calls::ask;
@@ -18,6 +19,7 @@ use wasm_store::Vessel;
 pub(crate) fn step_for_nothing(program: &Program, vessel: &mut Vessel) -> Step
     requires state { IsState program.now vessel.old }
     ensures does { Does program.now 0 vessel.old vessel.new result }
+    ensures next { AnswersNext program.now vessel.old 0 result }
     ensures pages { vessel.new.pages ≡ vessel.old.pages }
 {
     let place = vessel.place();
@@ -29,6 +31,7 @@ pub(crate) fn step_for_nothing(program: &Program, vessel: &mut Vessel) -> Step
 fn act_for_nothing(program: &Program, vessel: &mut Vessel, operator: Op) -> Step
     requires at { IsAt program.now vessel.old operator }
     ensures does { Does program.now 0 (before vessel.old) vessel.new result }
+    ensures next { AnswersTo program.now (before vessel.old) 0 (Some operator) result }
     ensures pages { vessel.new.pages ≡ vessel.old.pages }
 {
     match operator {
@@ -46,6 +49,7 @@ fn fall_short(_program: &Program, vessel: &mut Vessel, _operator: Op) -> Step
     requires priced { IsPriced _operator }
     requires quiet { asked_by _program.now (before vessel.old) (Some _operator) ≡ None }
     ensures does { Does _program.now 0 (before vessel.old) vessel.new result }
+    ensures next { AnswersTo _program.now (before vessel.old) 0 (Some _operator) result }
     ensures pages { vessel.new.pages ≡ vessel.old.pages }
 {
     let place = vessel.place() - 1;
@@ -57,6 +61,7 @@ fn fall_short(_program: &Program, vessel: &mut Vessel, _operator: Op) -> Step
 fn peek_call(program: &Program, vessel: &mut Vessel, index: u32) -> Step
     requires at { IsAt program.now vessel.old (op.Call index) }
     ensures does { Does program.now 0 (before vessel.old) vessel.new result }
+    ensures next { AnswersTo program.now (before vessel.old) 0 (Some (op.Call index)) result }
     ensures pages { vessel.new.pages ≡ vessel.old.pages }
 {
     match program.callee(index) {
@@ -69,6 +74,7 @@ fn peek_call(program: &Program, vessel: &mut Vessel, index: u32) -> Step
 fn peek_indirect(program: &Program, vessel: &mut Vessel, type_index: u32) -> Step
     requires at { IsAt program.now vessel.old (op.CallIndirect type_index) }
     ensures does { Does program.now 0 (before vessel.old) vessel.new result }
+    ensures next { AnswersTo program.now (before vessel.old) 0 (Some (op.CallIndirect type_index)) result }
     ensures pages { vessel.new.pages ≡ vessel.old.pages }
 {
     match vessel.element(vessel.operand(0) as u32) {
@@ -81,6 +87,7 @@ fn peek_element(program: &Program, vessel: &mut Vessel, type_index: u32, index: 
     requires at { IsAt program.now vessel.old (op.CallIndirect type_index) }
     requires element { (place : ℕ) → slice_get vessel.old.cells 0 ≡ Some place → slice_get vessel.old.table place ≡ Some (Some index) }
     ensures does { Does program.now 0 (before vessel.old) vessel.new result }
+    ensures next { AnswersTo program.now (before vessel.old) 0 (Some (op.CallIndirect type_index)) result }
     ensures pages { vessel.new.pages ≡ vessel.old.pages }
 {
     if !program.is_of_type(index, type_index) {

@@ -7,6 +7,7 @@ ghost use Rattle.wasm_step.specs.Arms.{IsAt, before};
 ghost use Rattle.wasm_step.specs.Asking.{Asking};
 ghost use Rattle.wasm_step.specs.Does.{Does};
 ghost use Rattle.wasm_step.specs.Means.{IsEnded, IsOneMove, IsSpent, Keeps, Means, NothingLeft};
+ghost use Rattle.wasm_step.specs.Next.{AnswersNext, AnswersTo};
 
 use crate::answers::Step;
 use crate::calls::{call, call_indirect};
@@ -34,6 +35,7 @@ pub fn step(program: &Program, vessel: &mut Vessel, left: u64) -> Step
     ensures free { IsOneMove vessel.old vessel.new result }
     ensures asks { Asking program.now vessel.old result }
     ensures short { IsSpent left result }
+    ensures next { AnswersNext program.now vessel.old left result }
     ensures pages { vessel.new.pages ≡ vessel.old.pages }
 {
     if left == 0 {
@@ -61,6 +63,7 @@ fn fetch(program: &Program, body: u32, place: u32) -> &Op
 fn act(program: &Program, vessel: &mut Vessel, operator: &Op) -> Step
     requires at { IsAt program.now vessel.old operator.now }
     ensures does { Does program.now 1 (before vessel.old) vessel.new result }
+    ensures next { AnswersTo program.now (before vessel.old) 1 (Some operator.now) result }
     ensures pages { vessel.new.pages ≡ vessel.old.pages }
 {
     match *operator {

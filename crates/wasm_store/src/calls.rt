@@ -7,7 +7,7 @@ use std::alloc::{AllocError, Global};
 use std::marker::Model;
 
 /// What a call leaves behind and goes back to.
-#[derive(Clone, Copy, Debug, PartialEq, Eq)]
+#[derive(Clone, Copy)]
 pub struct Frame {
     /// The body that the call came from.
     pub function: u32,
@@ -30,13 +30,24 @@ const NO_FRAME: Frame = Frame {
 };
 
 /// What runs, and the frames of the live calls. The frame of the call that runs is a field of its own, since every operator reads it.
-#[derive(Drop)]
 pub struct CallStack {
     function: u32,
     place: u32,
     used: u32,
     live: Frame,
     callers: Stack<Frame, 4096>,
+}
+
+impl Drop for CallStack {
+    fn drop(self) {
+        let CallStack {
+            function: _,
+            place: _,
+            used: _,
+            live: _,
+            callers: _,
+        } = self;
+    }
 }
 
 impl Model for CallStack {

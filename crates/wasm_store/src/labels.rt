@@ -1,7 +1,7 @@
 //! The labels of open blocks.
 
 /// A block that is open: where a branch to it goes on, and what it leaves there (WebAssembly Core 1.0, section 4.2.12).
-#[derive(Clone, Copy, Debug, PartialEq, Eq)]
+#[derive(Clone, Copy)]
 pub struct Label {
     /// The place of the operator that a branch to the label goes on with.
     pub target: u32,

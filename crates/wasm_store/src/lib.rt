@@ -18,6 +18,3 @@ pub use calls::Frame;
 pub use labels::Label;
 pub use strips::Strip;
 pub use vessel::Vessel;
-
-#[cfg(test)]
-mod tests;

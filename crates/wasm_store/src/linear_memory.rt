@@ -7,10 +7,15 @@ use crate::strips::{PAGE, Strip};
 use std::marker::Model;
 
 /// The memory of a running function. Contracts see the bytes in use and the pages of the strip behind them; the rest of the strip is zero.
-#[derive(Drop)]
 pub struct LinearMemory {
     strip: Strip,
     size: u32,
+}
+
+impl Drop for LinearMemory {
+    fn drop(self) {
+        let LinearMemory { strip: _, size: _ } = self;
+    }
 }
 
 impl Model for LinearMemory {

@@ -7,10 +7,15 @@ use std::marker::Model;
 /// Items in order, with room for a fixed number of them. Contracts see the list of its items.
 ///
 /// Items beyond the last stay in the room until others take their place; no call reads them.
-#[derive(Drop)]
 pub struct Reserved<T: Drop, const ROOM: usize> {
     items: Vec<T>,
     count: u32,
+}
+
+impl<T: Drop, const ROOM: usize> Drop for Reserved<T, ROOM> {
+    fn drop(self) {
+        let Reserved { items: _, count: _ } = self;
+    }
 }
 
 impl<T: Drop, const ROOM: usize> Model for Reserved<T, ROOM> {

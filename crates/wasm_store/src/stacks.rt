@@ -8,10 +8,15 @@ use std::marker::Model;
 /// Items one upon another, with room for a fixed number of them. Contracts see the list of its items, the top one first.
 ///
 /// Items beyond the top stay in the room until others take their place; no call reads them.
-#[derive(Drop)]
 pub struct Stack<T: Drop, const ROOM: usize> {
     items: Vec<T>,
     count: u32,
+}
+
+impl<T: Drop, const ROOM: usize> Drop for Stack<T, ROOM> {
+    fn drop(self) {
+        let Stack { items: _, count: _ } = self;
+    }
 }
 
 impl<T: Drop, const ROOM: usize> Model for Stack<T, ROOM> {

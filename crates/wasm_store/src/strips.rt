@@ -9,10 +9,15 @@ use std::marker::Model;
 pub const PAGE: usize = 65_536;
 
 /// A block of whole pages of its own, given back when the strip is dropped. Contracts see it as the list of its bytes.
-#[derive(Drop)]
 pub struct Strip {
     bytes: Vec<u8>,
     pages: u32,
+}
+
+impl Drop for Strip {
+    fn drop(self) {
+        let Strip { bytes: _, pages: _ } = self;
+    }
 }
 
 impl Model for Strip {
@@ -63,14 +68,14 @@ impl Strip {
 
     /// All its bytes.
     #[inline(always)]
-    pub fn bytes(&self) -> &[u8]
+    pub(crate) fn bytes(&self) -> &[u8]
         ensures { result.now ≡ self.now }
     {
         self.bytes.as_slice()
     }
 
     /// Writes bytes from a place on.
-    pub fn lay(&mut self, at: usize, bytes: &[u8])
+    pub(crate) fn lay(&mut self, at: usize, bytes: &[u8])
         requires { at + length bytes.now ≤ length self.old }
         ensures { self.new ≡ with_bytes self.old at bytes.now }
     {
@@ -81,7 +86,7 @@ impl Strip {
 
     /// Writes a few bytes, of a number known when this is compiled, from a place on. All of them lie within the first `used` bytes, which were tested before.
     #[inline(always)]
-    pub fn lay_few<const N: usize>(&mut self, used: usize, at: usize, bytes: [u8; N])
+    pub(crate) fn lay_few<const N: usize>(&mut self, used: usize, at: usize, bytes: [u8; N])
         requires within { used ≤ length self.old }
         requires fits { at + length bytes ≤ used }
         ensures { self.new ≡ with_bytes self.old at bytes.entry }
@@ -92,7 +97,7 @@ impl Strip {
     }
 
     /// Makes so many bytes from the beginning zero.
-    pub fn clear(&mut self, count: usize)
+    pub(crate) fn clear(&mut self, count: usize)
         requires { count ≤ length self.old }
         ensures { self.new ≡ zeros count ++ drop count self.old }
     {

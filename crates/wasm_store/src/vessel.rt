@@ -47,10 +47,18 @@ impl Rooms {
 ///
 /// Its room is taken once, when it is made: 1,000 globals, a table of 10,000 elements, 65,536 cells and as many labels, and 4,096 frames. No other call takes memory.
 /// Contracts see it as its `View`; the strip beyond the memory is always zero.
-#[derive(Drop)]
 pub struct Vessel {
     memory: LinearMemory,
     rooms: Rooms,
+}
+
+impl Drop for Vessel {
+    fn drop(self) {
+        let Vessel {
+            memory: _,
+            rooms: _,
+        } = self;
+    }
 }
 
 impl Model for Vessel {

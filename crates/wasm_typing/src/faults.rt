@@ -6,7 +6,7 @@ use std::alloc::{AllocError, AllocFailed};
 use wasm_meaning::Violation;
 
 /// Why `type_body` answers no measure.
-#[derive(Clone, Copy, Debug, PartialEq, Eq)]
+#[derive(Clone, Copy)]
 pub enum BodyFault {
     /// The first rule that the body breaks, and the place of the operator.
     Breaks(Violation),

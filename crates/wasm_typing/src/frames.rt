@@ -4,7 +4,7 @@ use wasm_meaning::BlockKind;
 use wasm_ops::ValType;
 
 /// An open block, with what was there around it.
-#[derive(Clone, Copy, Debug)]
+#[derive(Clone, Copy)]
 pub(crate) struct Frame {
     /// In which part of which instruction its operators stand.
     pub(crate) kind: BlockKind,

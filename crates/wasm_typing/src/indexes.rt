@@ -11,7 +11,6 @@ use wasm_meaning::GlobalType;
 use wasm_ops::{FuncType, GlobalDef, Import, ImportItem, Limits, Module};
 
 /// A module whose index spaces are known. Contracts see it as the module.
-#[derive(Drop)]
 pub struct Indexed {
     module: Module,
 
@@ -29,6 +28,19 @@ pub struct Indexed {
 
     /// The type of each global.
     globals: Vec<GlobalType>,
+}
+
+impl Drop for Indexed {
+    fn drop(self) {
+        let Indexed {
+            module: _,
+            functions: _,
+            imported: _,
+            tables: _,
+            memories: _,
+            globals: _,
+        } = self;
+    }
 }
 
 impl Model for Indexed {

@@ -1,7 +1,7 @@
 //! What is kept of a body that is typed.
 
 /// How much room a body needs beside its locals.
-#[derive(Clone, Copy, Debug, PartialEq, Eq)]
+#[derive(Clone, Copy)]
 pub struct Measure {
     /// The greatest number of operands before or behind any of its operators.
     pub height: u32,

@@ -1,7 +1,7 @@
 //! How far the walk over a body has come.
 
 /// What is known of a body behind an operator.
-#[derive(Clone, Copy, Debug, PartialEq, Eq)]
+#[derive(Clone, Copy)]
 pub(crate) enum Stage {
     /// The walk goes on behind it.
     Inside,

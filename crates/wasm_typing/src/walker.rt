@@ -16,7 +16,6 @@ use wasm_ops::ValType;
 /// What is known before an operator.
 ///
 /// Contracts see it as `Open`: the walk of the block at hand, and the blocks around it.
-#[derive(Drop)]
 pub(crate) struct Walker {
     /// The types of all operands, the last one at the end. None is an operand of any type.
     pub(crate) operands: Vec<Option<ValType>>,
@@ -38,6 +37,20 @@ pub(crate) struct Walker {
 
     /// The most open blocks so far.
     pub(crate) deepest: u32,
+}
+
+impl Drop for Walker {
+    fn drop(self) {
+        let Walker {
+            operands: _,
+            frames: _,
+            base: _,
+            loose: _,
+            place: _,
+            most: _,
+            deepest: _,
+        } = self;
+    }
 }
 
 impl Model for Walker {

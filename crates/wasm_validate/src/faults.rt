@@ -6,7 +6,7 @@ use std::alloc::{AllocError, AllocFailed};
 use wasm_meaning::Broken;
 
 /// Why `validate` answers no valid module.
-#[derive(Clone, Copy, Debug, PartialEq, Eq)]
+#[derive(Clone, Copy)]
 pub enum ValidFault {
     /// The first rule that the module breaks, by its number: 30 to 43 (`wasm_meaning::Rule`).
     Rule(Broken),

@@ -23,10 +23,18 @@ use wasm_typing::{Indexed, Measure};
 /// A module that is valid. Contracts see it as the module.
 ///
 /// It knows the index spaces of the module, and how much room each body needs beside its locals.
-#[derive(Drop)]
 pub struct Valid {
     indexed: Indexed,
     measures: Vec<Measure>,
+}
+
+impl Drop for Valid {
+    fn drop(self) {
+        let Valid {
+            indexed: _,
+            measures: _,
+        } = self;
+    }
 }
 
 impl Model for Valid {

@@ -1,4 +1,4 @@
-use Rattle.std.proofs.Common.{◌≡◌, ◌<◌, length, map, refl, arith}
+use Rattle.std.proofs.Common.{◌≡◌, map, refl, arith}
 use Rattle.std.proofs.lemmas.List.{length-map}
 use Rattle.recording_format.specs.Connections.{tenants_of}
 use Rattle.recorded_arrivals.specs.Arrivals.{arrivals}

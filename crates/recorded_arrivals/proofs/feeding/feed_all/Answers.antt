@@ -4,9 +4,8 @@ use Rattle.http_front.specs.Views.{heard_of}
 use Rattle.recording_format.specs.declared.records.Record.{Record}
 use Rattle.recording_format.specs.Following.{IsLegal}
 use Rattle.recording_format.proofs.StandingLaws.{few_connections}
-use Rattle.recorded_arrivals.specs.Feeding.{IsFeeding}
 use Rattle.recorded_arrivals.specs.Seen.{arrival_seen}
-use Rattle.recorded_arrivals.proofs.FeedingLaws.{starts, begun_at, fed_next, too_many, at_last, all_begun, all_told}
+use Rattle.recorded_arrivals.proofs.FeedingLaws.{starts, begun_at, fed_next, too_many, at_last, all_begun}
 use Rattle.recorded_arrivals.proofs.feeding.feed_all.Goals as goal
 
 pub loop-record-init : goal.loop-record-init

@@ -1,7 +1,6 @@
 -- The route is one of the tenant's own, or stands behind them.
 use Rattle.serve_config.proofs.Places.{place_here, place_behind}
-use Rattle.std.proofs.Common.{◌≤◌, length, sym, ◌∙◌, arith}
-use Rattle.std.proofs.lemmas.Bool.Decides.{nat_tests}
+use Rattle.std.proofs.Common.{sym, ◌∙◌, arith}
 use Rattle.serve_config.proofs.configs.route_at.Goals as goal
 
 pub returns-then-left-routes : goal.returns-then-left-routes

@@ -1,12 +1,12 @@
 -- One program more, the fault of one file, or all programs.
-use Rattle.std.proofs.Common.{◌≤◌, length, subst, sym, ◌∙◌, ap, arith, Vec}
+use Rattle.std.proofs.Common.{◌∙◌, arith, Vec}
 use Rattle.std.specs.Arc.{arc_value}
 use Rattle.std.specs.declared.alloc.Global.{Global}
 use Rattle.std.specs.declared.sync.Arc.{Arc}
 use Rattle.wasm_meaning.specs.Programs.{Program}
 use Rattle.serve_config.specs.Routing.{all_routes}
 use Rattle.serve_config.specs.Loaded.{programs_in}
-use Rattle.serve_config.proofs.Loadings.{Onward, onward_goes, onward_fails, onward_ends, programs_more, among}
+use Rattle.serve_config.proofs.Loadings.{onward_goes, onward_fails, onward_ends, programs_more, among}
 use Rattle.serve_config.proofs.loading.load_programs.Goals as goal
 
 pub returns-in-Err-clause-loaded : goal.returns-in-Err-clause-loaded

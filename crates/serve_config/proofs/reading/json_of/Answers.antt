@@ -1,5 +1,4 @@
 -- Both sides of what `serde_json` answers.
-use Rattle.std.proofs.Common.{rules}
 use Rattle.serve_config.proofs.Json.{json_read, json_refused}
 use Rattle.serve_config.proofs.reading.json_of.Goals as goal
 

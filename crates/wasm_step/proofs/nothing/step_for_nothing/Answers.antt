@@ -1,4 +1,5 @@
 use Rattle.wasm_step.specs.Arms.{before}
+use Rattle.wasm_step.proofs.NextLaws.{next_of}
 use Rattle.wasm_step.proofs.StepLaws.{operator_found, op_found, next_fits, passed_at, before_is, does_as}
 use Rattle.wasm_step.proofs.nothing.step_for_nothing.Goals as goal
 
@@ -13,3 +14,6 @@ act_for_nothing-requires c = record { at = passed_at c.args.program.now c.args.v
 
 pub returns-clause-does : goal.returns-clause-does
 returns-clause-does c = does_as c.args.program.now 0 (before c.go_to.new.self) c.args.vessel.now c.act_for_nothing.new.vessel c.act_for_nothing.result (before_is c.args.vessel.now c.go_to.new.self c.place-place.result c.place-place.ensures c.go_to.ensures) c.act_for_nothing.ensures.does
+
+pub returns-clause-next : goal.returns-clause-next
+returns-clause-next c = next_of c.args.program.now (before c.go_to.new.self) c.args.vessel.now 0 c.operator-operator.result c.act_for_nothing.result (before_is c.args.vessel.now c.go_to.new.self c.place-place.result c.place-place.ensures c.go_to.ensures) (op_found c.args.program.now c.args.vessel.now c.function.result c.place-place.result c.operator-operator.result c.function.ensures c.place-place.ensures c.operator-operator.ensures) c.act_for_nothing.ensures.next

@@ -1,5 +1,7 @@
-use Rattle.std.proofs.Common.{arith}
+use Rattle.std.proofs.Common.{ℕ, sym, subst, arith}
 use Rattle.wasm_step.specs.Arms.{before}
+use Rattle.wasm_step.specs.Next.{AnswersNext}
+use Rattle.wasm_step.proofs.NextLaws.{next_left}
 use Rattle.wasm_step.proofs.StepLaws.{operator_found, op_found, next_fits, passed_at, before_is, does_as, keeps_of, means_of, asking_of, ended_of, one_move_of, spent_of}
 use Rattle.wasm_step.proofs.steps.step.Goals as goal
 
@@ -47,3 +49,9 @@ returns-then-left-eq0-clause-short c = spent_of c.args.program.now c.args.vessel
 
 pub returns-clause-short : goal.returns-clause-short
 returns-clause-short c = spent_of c.args.program.now (before c.go_to.new.self) c.act.new.vessel 1 c.args.left c.act.result (λ e. let bad : ⊥ = omega (arith, e) in absurd bad) c.act.ensures.does
+
+pub returns-then-left-eq0-clause-next : goal.returns-then-left-eq0-clause-next
+returns-then-left-eq0-clause-next c = subst (λ (l : ℕ). AnswersNext c.args.program.now c.args.vessel.now l c.step_for_nothing.result) (sym c.if-left-eq0.true) c.step_for_nothing.ensures.next
+
+pub returns-clause-next : goal.returns-clause-next
+returns-clause-next c = next_left c.args.program.now (before c.go_to.new.self) c.args.vessel.now c.args.left c.fetch-operator.result.now c.act.result (before_is c.args.vessel.now c.go_to.new.self c.place-place.result c.place-place.ensures c.go_to.ensures) (op_found c.args.program.now c.args.vessel.now c.function.result c.place-place.result c.fetch-operator.result.now c.function.ensures c.place-place.ensures c.fetch-operator.ensures) (omega (arith, c.if-left-eq0.false)) c.act.ensures.next

@@ -1,5 +1,5 @@
 -- A configuration has at most 64 routes.
-use Rattle.std.proofs.Common.{◌≡◌, ◌≤◌, ap, sym, ◌∙◌, List}
+use Rattle.std.proofs.Common.{ap, ◌∙◌, List}
 use Rattle.serve_config.specs.declared.tenants.Tenant.{Tenant}
 use Rattle.serve_config.specs.Overview.{route_count}
 use Rattle.serve_config.proofs.Making.{nothing_wrong}

@@ -1,0 +1,2 @@
+pub mod Programs
+mod Spelt

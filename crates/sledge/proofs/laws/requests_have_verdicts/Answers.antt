@@ -1,5 +1,0 @@
-use Rattle.sledge.proofs.InvokeLaws.{has_verdict}
-use Rattle.sledge.proofs.laws.requests_have_verdicts.Goals as goal
-
-pub returns : goal.returns
-returns c = has_verdict

@@ -1,0 +1,124 @@
+#!/usr/bin/env python3
+"""Recordings, as docs/FORMATS.md describes them: a writer, and a reader apart from the repository's code.
+
+    recordings.py      reads lines of words, and writes the recording that they spell
+
+The lines are `begin MOMENT LINK TENANT`, `piece MOMENT LINK TEXT`, where `\\r`, `\\n`, `\\\\` and `\\xHH` in TEXT
+stand for single bytes, and `close MOMENT LINK`. The end is written behind the last line. Nothing is checked, so that a
+recording that must be refused can be written too.
+"""
+
+import codecs
+import struct
+import sys
+
+MAGIC = b"SLR1"
+END, BEGIN, PIECE, CLOSE = range(4)
+MOST_BYTES = 32 * 1024 * 1024
+MOST_CONNECTIONS = 1024
+
+
+# ---- the writer
+
+
+def begin(moment, link, tenant):
+    return struct.pack("<BIII", BEGIN, moment, link, tenant)
+
+
+def piece(moment, link, data):
+    return struct.pack("<BIII", PIECE, moment, link, len(data)) + data
+
+
+def close(moment, link):
+    return struct.pack("<BII", CLOSE, moment, link)
+
+
+def recording(records):
+    return MAGIC + b"".join(records) + bytes([END])
+
+
+def record_of_line(line):
+    words = line.split(" ", 3)
+    kind, numbers, rest = words[0], [int(word) for word in words[1:3]], words[3:]
+    if kind == "begin":
+        return begin(*numbers, int(rest[0]))
+    if kind == "piece":
+        text = rest[0] if rest else ""
+        return piece(*numbers, codecs.escape_decode(text.encode())[0])
+    if kind == "close" and not rest:
+        return close(*numbers)
+    raise ValueError("no record: %s" % line)
+
+
+# ---- the reader: the records, or the number of the first refusal
+
+
+class Refused(Exception):
+    pass
+
+
+def read(data, tenants):
+    if len(data) > MOST_BYTES:
+        raise Refused(76)
+    if data[:4] != MAGIC:
+        raise Refused(70)
+    at, last, open_links, records = 4, 0, [], []
+    while True:
+        if at == len(data):
+            raise Refused(71)
+        kind = data[at]
+        if kind > 3:
+            raise Refused(72)
+        if kind == END:
+            if at + 1 < len(data):
+                raise Refused(78)
+            return records
+        if at + 9 > len(data):
+            raise Refused(71)
+        moment, link = struct.unpack_from("<II", data, at + 1)
+        if moment < last:
+            raise Refused(73)
+        if kind == BEGIN:
+            if link != len(open_links):
+                raise Refused(74)
+        elif link >= len(open_links) or not open_links[link]:
+            raise Refused(74)
+        number, end = None, at + 9
+        if kind != CLOSE:
+            if at + 13 > len(data):
+                raise Refused(71)
+            (number,) = struct.unpack_from("<I", data, at + 9)
+            end = at + 13
+        if kind == PIECE:
+            end += number
+            if end > len(data):
+                raise Refused(71)
+        if link >= MOST_CONNECTIONS:
+            raise Refused(76)
+        if kind == BEGIN and number >= tenants:
+            raise Refused(75)
+        if kind == BEGIN:
+            open_links.append(True)
+            records.append("begin %d %d %d" % (moment, link, number))
+        elif kind == PIECE:
+            records.append("piece %d %d %s" % (moment, link, data[at + 13 : end].hex() or "-"))
+        else:
+            open_links[link] = False
+            records.append("close %d %d" % (moment, link))
+        at, last = end, moment
+
+
+def answer(data, tenants):
+    try:
+        return "".join(" %s;" % record for record in read(data, tenants))
+    except Refused as refused:
+        return " refused %d" % refused.args[0]
+
+
+def main():
+    lines = sys.stdin.read().splitlines()
+    sys.stdout.buffer.write(recording(record_of_line(line) for line in lines if line))
+
+
+if __name__ == "__main__":
+    main()

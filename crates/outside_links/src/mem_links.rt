@@ -118,6 +118,13 @@ impl MemLink {
         self.out.as_slice()
     }
 
+    /// Shows that a link which is not used has not ended.
+    pub(crate) fn shows_its_end(&self)
+        ensures { self.now.used ≡ false → self.now.ended ≡ false }
+    {
+        let _ = &self.used;
+    }
+
     /// Whether the next read fails.
     fn read_fails(&self) -> bool
         ensures { result ≡ read_fails self.now }

@@ -1,6 +1,7 @@
 -- What calls exchanged, one behind another, is what they exchanged together.
 use Rattle.std.proofs.Common.{◌≡◌, ℕ, List, [], ◌++◌, Option, None, Some, refl, sym, ap, ◌∙◌, append_assoc, append-nil}
 use Rattle.std.specs.Io.KnownBytes.{append_known, prepend_known}
+use Rattle.outside_links.specs.Counted.{Streaming, untold_link}
 use Rattle.outside_links.specs.Link.{Exchanges, LinkState}
 
 prepend_known-append : (front rest : List ℕ) (known : Option (List ℕ)) → prepend_known front (prepend_known rest known) ≡ prepend_known (front ++ rest) known
@@ -29,3 +30,7 @@ Exchanges-behind old mid new read read' sent sent' first second = record {
   left = first.left ∙ ap (prepend_known read) second.left ∙ prepend_known-append read read' new.left;
   written = second.written ∙ ap (λ known. append_known known sent') first.written ∙ append_known-append old.written sent sent';
 }
+
+-- what a link exchanged that tells no bytes
+pub Exchanges-untold : {S : Type 0} (old new : Streaming S) (read sent : List ℕ) → Exchanges (untold_link old) (untold_link new) read sent
+Exchanges-untold old new read sent = record { left = refl; written = refl }

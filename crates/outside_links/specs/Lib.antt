@@ -1,0 +1,10 @@
+pub mod Counted
+pub mod Door
+pub mod Exchanges
+pub mod Faults
+pub mod Link
+pub mod MemDoor
+pub mod MemLink
+pub mod MemPort
+pub mod Port
+pub mod Spawner

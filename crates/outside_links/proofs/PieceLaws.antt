@@ -29,7 +29,7 @@ pub record Laid (old new : List (List ℕ)) (piece : List ℕ) (room laid_down :
   pub end : 0 < room → laid_down ≡ 0 → bytes_of old ≡ []
 
 laid_none : (room : ℕ) → Laid [] [] [] room 0
-laid_none room = record { next = take_all room [] (omega arith); count = refl; left = refl; taken = sym (append-nil (take room [])  ∙ take_all room [] (omega arith)); end = λ some none. refl }
+laid_none room = record { next = take_all room [] (omega arith); count = refl; left = refl; taken = sym (append-nil (take room []) ∙ take_all room [] (omega arith)); end = λ some none. refl }
 
 laid_some : (byte : ℕ) (piece : List ℕ) (pieces : List (List ℕ)) (room count : ℕ) → count ≡ min room (length (byte ∷ piece))
     → Laid ((byte ∷ piece) ∷ pieces) (pass_empty (drop count (byte ∷ piece) ∷ pieces)) (byte ∷ piece) room count
@@ -41,8 +41,8 @@ laid_some byte piece pieces room count is =
       count = is ∙ sym (length-take room all);
       left = ap (λ left. pass_empty (left ∷ pieces)) rest;
       taken = sym (ap (λ bytes. take room all ++ bytes) (bytes_of-pass_empty (drop count all ∷ pieces) ∙ ap (λ left. left ++ bytes_of pieces) rest)
-        ∙ sym (append_assoc (take room all) (drop room all) (bytes_of pieces))
-        ∙ ap (λ bytes. bytes ++ bytes_of pieces) (take-append-drop room all));
+          ∙ sym (append_assoc (take room all) (drop room all) (bytes_of pieces))
+          ∙ ap (λ bytes. bytes ++ bytes_of pieces) (take-append-drop room all));
       end = λ some none. let bad : ⊥ = omega (arith, is, none, some) in absurd bad;
     }
 
@@ -62,5 +62,5 @@ laid old items left at later room count before rest is first =
     let more : drop (at + count) items ≡ drop count left = sym (drop-drop count at items) ∙ ap (drop count) (sym rest) in
     let same : old ≡ pass_empty (left ∷ map items_of later) = sym before ∙ ap (λ bytes. pass_empty (bytes ∷ map items_of later)) (sym rest) in
     let some : (0 < length left) ⊎ (map items_of later ≡ []) =
-        elim first [ inl more ↦ inl (rw rest (omega (arith, length-drop at items, more))) | inr none ↦ inr (ap (map items_of) none) ] in
+    elim first [ inl more ↦ inl (rw rest (omega (arith, length-drop at items, more))) | inr none ↦ inr (ap (map items_of) none) ] in
     rw (same, more) (laid_by left (map items_of later) room count is some)

@@ -34,8 +34,8 @@ later_ports (port ∷ ports) = ports
 -- what a door is after a call of `listen`
 abbrev pub after_listen : Doorway → Doorway
 after_listen d = cond (listen_fails d)
-  (record d { calls = one_more d.calls; faults = one_more d.faults })
-  (record d { calls = one_more d.calls; ports = later_ports d.ports })
+    (record d { calls = one_more d.calls; faults = one_more d.faults })
+    (record d { calls = one_more d.calls; ports = later_ports d.ports })
 
 -- a port came back
 abbrev pub after_give_back : Doorway → Listening → Doorway

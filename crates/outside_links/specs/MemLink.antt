@@ -69,13 +69,13 @@ read_fails l = list_any (λ number. number == l.reads) l.failing_reads
 -- what a link is after a read with so much room
 abbrev pub after_read : Linked → ℕ → Linked
 after_read l room = cond (read_fails l)
-  (record l { reads = one_more l.reads; used = true; faults = one_more l.faults })
-  (record l {
-    reads = one_more l.reads;
-    pieces = left_behind l.pieces room;
-    ended = l.ended || (length (next_bytes l.pieces room) == 0);
-    used = l.used || (length (next_bytes l.pieces room) == 0);
-  })
+    (record l { reads = one_more l.reads; used = true; faults = one_more l.faults })
+    (record l {
+      reads = one_more l.reads;
+      pieces = left_behind l.pieces room;
+      ended = l.ended || (length (next_bytes l.pieces room) == 0);
+      used = l.used || (length (next_bytes l.pieces room) == 0);
+    })
 
 -- how many bytes the next write lets pass, where it is cut; of two cuts of one call the first stands
 abbrev pub next_cut : Linked → Option ℕ

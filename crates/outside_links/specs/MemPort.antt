@@ -23,7 +23,14 @@ mem_port_state p = record { number = p.number; lent = p.lent; ended = p.ended; f
 -- a port on which no call was made
 abbrev pub unused_port : List Linked → (failing : List ℕ) → (number : ℕ) → Listening
 unused_port links failing number = record {
-  links = links; failing = failing; calls = 0; number = number; lent = 0; ended = false; faults = 0 }
+  links = links;
+  failing = failing;
+  calls = 0;
+  number = number;
+  lent = 0;
+  ended = false;
+  faults = 0;
+}
 
 -- no call was made on it
 pub record IsUntouched (p : Listening) : Type 0 where
@@ -49,8 +56,8 @@ after_first p (link ∷ links) = record p { calls = one_more p.calls; links = li
 -- and after any call of it
 abbrev pub after_accept : Listening → Listening
 after_accept p = cond (accept_fails p)
-  (record p { calls = one_more p.calls; faults = one_more p.faults })
-  (after_first p p.links)
+    (record p { calls = one_more p.calls; faults = one_more p.faults })
+    (after_first p p.links)
 
 -- a link came back
 abbrev pub after_close : Listening → Linked → Listening

@@ -65,7 +65,7 @@ impl Model for MemLink {
     // The room was reserved when the link was made, so no write takes memory. A link that has
     // ended is used.
     ghost invariant = { λ l. (vec_len l.out ≤ l.room) × (l.room ≤ vec_capacity l.out)
-      × (l.ended ≡ true → l.used ≡ true) };
+        × (l.ended ≡ true → l.used ≡ true) };
 }
 
 impl MemLink {
@@ -241,7 +241,7 @@ impl Link for MemLink {
     ghost nothing = { λ link. Exchanges-none (mem_link_state link) };
 
     ghost behind = { λ old mid new read read' sent sent' first second.
-      Exchanges-behind (mem_link_state old) (mem_link_state mid) (mem_link_state new) read read' sent sent' first second };
+        Exchanges-behind (mem_link_state old) (mem_link_state mid) (mem_link_state new) read read' sent sent' first second };
 
     ghost tells = { λ old new read sent told. told };
 }

@@ -169,10 +169,7 @@ impl Port for MemPort {
         ensures without { IfOk result (λ port. port ≡ unused_port [] [] self.old.number) }
         ensures same { self.new ≡ self.old }
     {
-        Ok(MemPort::without_links(
-            *self.failing.allocator(),
-            self.number,
-        ))
+        Ok(MemPort::without_links(*self.failing.allocator(), self.number))
     }
 
     fn ended(&self) -> bool {

@@ -19,6 +19,7 @@ const LINGER_SECONDS: u64 = 1;
 
 /// How many pieces of what its peer still sends it reads at most, and of how many bytes each.
 const LINGER_PIECES: u32 = 256;
+
 const LINGER_PIECE: usize = 8192;
 
 /// A stream of bytes both ways as a link.

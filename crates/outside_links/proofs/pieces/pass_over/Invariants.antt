@@ -7,7 +7,7 @@ abbrev pub invariant-loop-at : goal.invariant-loop-at
 invariant-loop-at l = record {
   within : l.at ≤ vec_len l.piece;
   same : pass_empty (drop l.at l.piece.items ∷ map items_of l.later.items)
-    ≡ pass_empty (drop l.fn.at l.fn.piece.items ∷ map items_of l.fn.later.items);
+      ≡ pass_empty (drop l.fn.at l.fn.piece.items ∷ map items_of l.fn.later.items);
 }
 
 abbrev pub decreases-loop-at : goal.decreases-loop-at

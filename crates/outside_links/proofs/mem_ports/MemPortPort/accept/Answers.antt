@@ -7,4 +7,4 @@ pub invariant_of-self-2 : goal.invariant_of-self-2
 invariant_of-self-2 c = λ k d within.
     let inside : k < length (drop 1 c.self.inside.links.items) = rw (← c.pop_front.ensures.rest) within in
     rw (c.pop_front.ensures.rest, get_or-drop 1 c.self.inside.links.items k d)
-      (c.self.invariant (1 + k) d (omega (arith, inside, length-drop 1 c.self.inside.links.items)))
+    (c.self.invariant (1 + k) d (omega (arith, inside, length-drop 1 c.self.inside.links.items)))

@@ -4,7 +4,7 @@
     documents.py
 
 - Each path between back quotes in a document, or in a comment of the code, is there; so are the targets of links, and their headings.
-- Each must-fail edit that docs/PROMISES.md has in a column of edits is a file, and it has each edit. Its clauses are clauses.
+- Each must-fail edit that docs/PROMISES.md has in a column of edits is a file, and it names each edit. Its clauses are clauses.
 - Each other name of code between back quotes stands somewhere in the sources.
 - crates.txt, docs/ARCHITECTURE.md, its picture and docs/PROVED.md have the same crates, under the same headings and in the same order.
   Each crate has a line, stands on crates above it, and names each of its libraries in one of its files.
@@ -134,6 +134,8 @@ def wrong_promises():
         yield from ("%s:%d: there is no must-fail edit %s" % (path, number, name) for name in edits if name not in EDITS | crates)
         told = [name for title in ("Clause", "Clauses") for name in re.findall(r"`([a-z]\w*)`", row.get(title, ""))]
         yield from ("%s:%d: no clause has the name %s" % (path, number, name) for name in told if name not in clauses)
+    # One that makes no public clause false stands in the prose.
+    named |= set(re.findall(r"`([^`]+)`", read(path)))
     yield from ("%s: it does not have the must-fail edit %s" % (path, name) for name in sorted(EDITS - named))
 
 

@@ -4,4 +4,4 @@ use Rattle.sandbox_states.specs.Onward.{RunsFor}
 use Rattle.sandbox_states.proofs.laws.onward_runs.Goals as goal
 
 pub returns : goal.returns
-returns c request s stands runs = subst (λ (r : Request). RunsFor r s) stands.of runs
+returns c = record { onward = λ request s stands runs. subst (λ (r : Request). RunsFor r s) stands.of runs }

@@ -218,7 +218,7 @@ def help_is_whole(shown):
     shapes = [line for line in lines if line.startswith("  sledge ")]
     statuses = [line.split()[0] for line in lines if line[:3].strip().isdigit() and line[:2] == "  "]
     return (
-        lines[0] == "usage:"
+        lines[:1] == ["usage:"]
         and shapes == ["  sledge " + shape for shape in SHAPES]
         and statuses == ["0", "2", "3", "4", "5", "6", "7", "8", "9", "10"]
         and any("docs/FORMATS.md" in line for line in lines)

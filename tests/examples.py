@@ -16,7 +16,7 @@ import random
 import subprocess
 import sys
 
-from lib import interpreter, module_validator
+from lib import interpreter, module_validator, usage
 from lib.running import SCRIPT, TOP, Case, compare
 
 # ---- what the functions are for
@@ -213,6 +213,7 @@ def ran_as_shown(name):
 
 
 def main(arguments):
+    usage.only([[], [lambda word: word == "write"]], arguments, __doc__)
     if arguments == ["write"]:
         write()
         return False

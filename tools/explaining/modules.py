@@ -327,7 +327,7 @@ def add_callers(report, survey, item):
     index = sum(kind == 0 for _, kind, _, _ in survey.imports[:item])
     callers = [survey.function_name(own) for own in survey.callers(index)]
     shown = callers[:MOST_LISTED] + (["%d more" % (len(callers) - MOST_LISTED)] if len(callers) > MOST_LISTED else [])
-    report.add("called by", joined(shown) if shown else "no function by its number (it may stand in the table)")
+    report.add("callers", joined(shown) if shown else "no function by its number (it may stand in the table)")
 
 
 def explain_import(report, survey, number, item):

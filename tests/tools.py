@@ -171,7 +171,7 @@ def imported(module_name, name, rest):
 START = "06 5F 73 74 61 72 74 00"
 WASI = b"wasi_snapshot_preview1"
 CALLS = ["60 00 00", "60 04 7F 7F 7F 7F 01 7F", "60 02 7F 7F 01 7F"]
-NO_FLOATS = "do Compute in whole numbers, and call nothing that needs floats; docs/FUNCTIONS.md has what in wasi-libc does (printf, strtod, assert)."
+NO_FLOATS = "do Compute in whole numbers, and call nothing that needs floats; of wasi-libc printf, sscanf, strtod and assert do (docs/FUNCTIONS.md has a printf without)."
 CORE_ONE = "do Compile for WebAssembly Core 1.0: for LLVM's compilers -mcpu=mvp"
 
 
@@ -241,7 +241,7 @@ MODULES = [
      "|found the export _start|do Name one of them otherwise."),
     (RANDOM, (50, 1), "an import that is none of the host's three",
      "where import 1, the function random_get of the module wasi_snapshot_preview1 of type (i32 i32) -> (i32)|callers function 2 <seed_of_map>"
-     "|do There are no random numbers: take out what asks for them; in Rust a HashMap does, and a BTreeMap does not."),
+     "|do There are no random numbers: take out what asks for them; in Rust the usual HashMap does, and a BTreeMap or the map of examples/letters does not."),
     (UNDEFINED, (50, 0), "an import that is none of the host's three", "where import 0, the function memset of the module env of type (nothing) -> (nothing)"
      "|callers function 1 <clear>|do No source or library defines memset: define it, or link the library that does (-lc); leave out -Wl,--allow-undefined, and the linker says so."),
     (module(imports=[imported(WASI, b"proc_exit", "00 00")], functions=["00"], exports=[START + "01"], bodies=[""]), (51, 0), "a call of the host with another type",

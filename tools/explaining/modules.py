@@ -85,13 +85,13 @@ ADVICE = {
     42: "Give the blocks one result.",
     43: "Write a constant of the type.",
 }
-NO_FLOATS = "Compute in whole numbers, and call nothing that needs floats; docs/FUNCTIONS.md has what in wasi-libc does (printf, strtod, assert)."
+NO_FLOATS = "Compute in whole numbers, and call nothing that needs floats; of wasi-libc printf, sscanf, strtod and assert do (docs/FUNCTIONS.md has a printf without)."
 IMPORT_ADVICE = (
-    (("fd_close", "fd_seek", "fd_fdstat_get", "fd_fdstat_set_flags"), "The buffers of the C library want it (<stdio.h>: puts, printf, fgets): read and write by read(0, ..) and write(1, ..)."),
+    (("fd_close", "fd_seek", "fd_fdstat_get"), "The buffers of the C library want it (<stdio.h>: puts, printf, fgets): link examples/stdio_stubs.c, which answers it, or read and write by read(0, ..) and write(1, ..)."),
     (("args_get", "args_sizes_get"), "There are no arguments: declare main without parameters."),
-    (("environ_get", "environ_sizes_get"), "There is no environment: take out what reads it (getenv; in Rust std::env)."),
+    (("environ_get", "environ_sizes_get"), "There is no environment: take out what reads it (getenv); Rust's standard library asks as it starts, and examples/letters answers it."),
     (("clock_time_get", "clock_res_get"), "There is no clock: take out what asks for the time."),
-    (("random_get",), "There are no random numbers: take out what asks for them; in Rust a HashMap does, and a BTreeMap does not."),
+    (("random_get",), "There are no random numbers: take out what asks for them; in Rust the usual HashMap does, and a BTreeMap or the map of examples/letters does not."),
     (("poll_oneoff", "sched_yield"), "There is nothing to wait for: take out what sleeps."),
 )
 BEGINNINGS = (

@@ -203,18 +203,18 @@ TYPED = "60 04 7F 7F 7F 7F 01 7F"
 MODULES = [
     (NOTHING[:33], (1, 33), "the file, or a body, ends too early", "where {at}, the end of the file|found 33 bytes, and the section of bodies goes past them"
      "|do Copy the file again, or build it again: a part of it is missing."),
-    (FLOAT, (5, 36), "a float operator", "where {at}, in the section of bodies|function function 0 <first>|operator f32.const, number 0 of its body"
+    (FLOAT, (5, 36), "a float operator", "where {at}, in the section of bodies|in function 0 <first>|operator f32.const, number 0 of its body"
      "|floats function 0 <first>: 3 float operators, the first f32.const at byte 36|" + NO_FLOATS),
-    (SATURATED, (5, 36), "a float operator", "where {at}, in the section of bodies|function function 0 <first>|operator f32.const, number 0 of its body"
+    (SATURATED, (5, 36), "a float operator", "where {at}, in the section of bodies|in function 0 <first>|operator f32.const, number 0 of its body"
      "|floats function 0 <first>: 2 float operators, the first f32.const at byte 36|" + NO_FLOATS),
-    (EXTENDED, (6, 38), "a byte that is no operator of WebAssembly Core 1.0", "where {at}, in the section of bodies|function function 0 <first>"
+    (EXTENDED, (6, 38), "a byte that is no operator of WebAssembly Core 1.0", "where {at}, in the section of bodies|in function 0 <first>"
      "|operator i32.extend8_s, number 1 of its body|found the byte C0|means sign extension of a later version of WebAssembly|%s, and without -msign-ext." % CORE_ONE),
-    (FILLED, (6, 47), "a byte that is no operator of WebAssembly Core 1.0", "where {at}, in the section of bodies|function function 0 <first>"
+    (FILLED, (6, 47), "a byte that is no operator of WebAssembly Core 1.0", "where {at}, in the section of bodies|in function 0 <first>"
      "|operator memory.fill, number 3 of its body|found the byte FC|means bulk memory of a later version of WebAssembly|%s, and without -mbulk-memory." % CORE_ONE),
-    (LOCAL, (7, 37), "a float type", "where {at}, in the section of bodies|function function 0 <first>|part the locals of the function"
+    (LOCAL, (7, 37), "a float type", "where {at}, in the section of bodies|in function 0 <first>|part the locals of the function"
      "|floats function 0 <first>: 1 local of floats|" + NO_FLOATS),
     (PARAMETER, (7, 16), "a float type", "where {at}, in the section of types|part type 1: (f64) -> (i32)|floats function 1 <taken>: its type is (f64) -> (i32)|" + NO_FLOATS),
-    (REFERENCES, (13, 46), "a table or a memory other than the first", "where {at}, in the section of bodies|function function 0 <first>"
+    (REFERENCES, (13, 46), "a table or a memory other than the first", "where {at}, in the section of bodies|in function 0 <first>"
      "|operator call_indirect, number 1 of its body|found the byte 80|%s." % CORE_ONE),
     (b"(module\n  (func))\n", (15, 0), "the file is no binary module", "found the bytes 28 6D 6F 64 75 6C 65 0A|means it is a module in the text format"
      "|do Assemble it first: wat2wasm NAME.wat -o NAME.wasm."),
@@ -231,17 +231,19 @@ MODULES = [
     (DEBUG, (21, 0), "a limit is passed", "found %d bytes, of which a file may have 4194304|room %d bytes: debug sections (custom, .debug_*)|room 112 bytes: the custom section producers"
      "|room 12 bytes: the section of exports|room 6 bytes: the section of types|room 6 bytes: the section of bodies|room 4 bytes: the section of functions"
      "|do Leave the debug sections out: link with -Wl,--strip-debug (Rust: -C strip=debuginfo), or compile without -g." % (36 + (5 << 20) + 33 + 112, (5 << 20) + 33)),
-    (module(types=["60 00 00"] * 1001), (21, 11), "a limit is passed", "where {at}, in the section of types|wanted at most 1,000 types, each of 1,000 parameters and one result"
+    (module(types=["60 00 00"] * 1001), (21, 11), "a limit is passed", "where {at}, in the section of types|found the number 1001|wanted at most 1,000 types, each of 1,000 parameters and one result"
      "|do Make the module smaller."),
-    (one("42 00 45 1A"), (31, 1), "an operand of another type", "function function 0 <first>|operator i32.eqz, number 1 of its body, at byte 38 (hexadecimal 26)"
+    (one("42 00 45 1A"), (31, 1), "an operand of another type", "in function 0 <first>|operator i32.eqz, number 1 of its body, at byte 38 (hexadecimal 26)"
      "|found i64, where i32 has to stand|do Convert the operand, or mend what wrote the file."),
-    (one("41 00 1A 1A"), (32, 2), "an operand too few, or too many", "function function 0 <first>|operator drop, number 2 of its body, at byte 39 (hexadecimal 27)"
+    (one("41 00 1A 1A"), (32, 2), "an operand too few, or too many", "in function 0 <first>|operator drop, number 2 of its body, at byte 39 (hexadecimal 27)"
      "|do Give the block a result, or drop what it does not need."),
     (module(functions=["00"], exports=[START + "00", START + "00"], bodies=[""]), (37, 1), "two exports with one name", "where export 1 of the file, from 0 on"
      "|found the export _start|do Name one of them otherwise."),
     (RANDOM, (50, 1), "an import that is none of the host's three",
      "where import 1, the function random_get of the module wasi_snapshot_preview1 of type (i32 i32) -> (i32)|callers function 2 <seed_of_map>"
      "|do There are no random numbers: take out what asks for them; in Rust the usual HashMap does, and a BTreeMap or the map of examples/letters does not."),
+    (named(FLOAT[: FLOAT.rindex(b"\x04name") - 2], {0: b"a\x1b[2J\n\xff"}), (5, 36), "a float operator", "where {at}, in the section of bodies|in function 0 <a\\x1b[2J\\n\ufffd>"
+     "|operator f32.const, number 0 of its body|floats function 0 <a\\x1b[2J\\n\ufffd>: 3 float operators, the first f32.const at byte 36|" + NO_FLOATS),
     (UNDEFINED, (50, 0), "an import that is none of the host's three", "where import 0, the function memset of the module env of type (nothing) -> (nothing)"
      "|callers function 1 <clear>|do No source or library defines memset: define it, or link the library that does (-lc); leave out -Wl,--allow-undefined, and the linker says so."),
     (module(imports=[imported(WASI, b"proc_exit", "00 00")], functions=["00"], exports=[START + "01"], bodies=[""]), (51, 0), "a call of the host with another type",

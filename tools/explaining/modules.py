@@ -1,7 +1,7 @@
 """What a refused module has wrong: `module N R P`, over the readers of `tests/lib` and the survey beside this file."""
 
 from explaining.report import Report, byte, counted, joined, shortened
-from explaining.survey import SECTIONS, TYPE_NAMES, Survey, type_text
+from explaining.survey import TYPE_NAMES, Scan, Survey, type_text
 from lib import interpreter, module_reader, module_validator
 
 MOST_LISTED = 12
@@ -141,6 +141,8 @@ COUNT_LIMITS = {1: "1,000 types, each of 1,000 parameters and one result", 2: "1
 def explain_count(report, survey, place):
     section = survey.section_at(place)
     add_place(report, survey, place)
+    if section and section.number in COUNT_LIMITS and section.number != 2:
+        report.add("found", "the number %d" % Scan(survey.data, place, len(survey.data)).number())
     report.add("wanted", "at most %s" % COUNT_LIMITS.get(section and section.number, "what docs/FORMATS.md has, \"Whole modules\""))
     report.add("do", "Make the module smaller.")
 
@@ -179,7 +181,7 @@ def add_place(report, survey, place):
         report.add("where", byte(place))
     if found:
         index, body = found
-        report.add("function", survey.function_name(index))
+        report.add("in", survey.function_name(index))
         part = survey.operator_at(body, place)
         if part:
             report.add("operator", "%s, number %d of its body" % (part[1].name, part[0]))
@@ -298,7 +300,7 @@ def explain_rule(report, survey, number, item):
     if broken.part == "bodies":
         index = len(survey.imported()) + broken.function
         operator = survey.bodies[broken.function].operators[item]
-        report.add("function", survey.function_name(index))
+        report.add("in", survey.function_name(index))
         report.add("operator", "%s%s, number %d of its body, at %s" % (
             operator.name, "" if operator.index is None else " %d" % operator.index, item, byte(operator.place)))  # fmt: skip
     elif broken.part in LISTS:

@@ -8,10 +8,15 @@ class Report:
         self.lines = []
 
     def add(self, label, text):
-        self.lines.append((label, text))
+        self.lines.append((label, printable(text)))
 
     def text(self):
         return "".join("  %-9s %s\n" % (label, text) for label, text in self.lines)
+
+
+def printable(text):
+    """A text in which each character that cannot be shown stands as an escape: names come from files that others wrote."""
+    return "".join(letter if letter.isprintable() else letter.encode("unicode_escape", "surrogatepass").decode() for letter in text)
 
 
 def shortened(text):

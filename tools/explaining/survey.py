@@ -332,7 +332,7 @@ class Survey:
         if found:
             yield "%d %s, the first %s at byte %d" % (len(found), "float operator" if len(found) == 1 else "float operators", found[0].name, found[0].place)
         if not body.whole:
-            yield "and bytes from %d on that are read no further" % (body.operators[-1].end if body.operators else body.begin)
+            yield "its bytes from %d on are not read" % (body.operators[-1].end if body.operators else body.begin)
 
 
 def type_text(kind):

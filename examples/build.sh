@@ -55,8 +55,18 @@ rust_with_std() {
     lay "$1"
 }
 
+# Two as one may write them first, which are refused (docs/FUNCTIONS.md, "From an empty file").
+refused() {
+    "${compile[@]}" --target=wasm32-wasi -Wno-deprecated refused/mean.c -o "$made/o"
+    "${link[@]}" --target=wasm32-wasi -Wno-deprecated "$made/o" -o "$made/wasm"
+    install -m 644 "$made/wasm" "${folder:-refused}/${folder:+refused_}mean.wasm"
+    "${rust[@]}" --target wasm32-wasi refused/letters.rs -o "$made/wasm"
+    install -m 644 "$made/wasm" "${folder:-refused}/${folder:+refused_}letters.wasm"
+}
+
 for name in echo sha256 life matrix trap endless; do bare "$name"; done
 for name in lines csv json; do with_libc "$name"; done
-with_stdio words
+for name in words mean; do with_stdio $name; done
 rust_alone upper
 rust_with_std letters
+refused

@@ -113,6 +113,13 @@ def counted(body):
     return "reply", b"%d lines, %d words, %d bytes\n" % (body.count(b"\n"), len(body.split()), len(body))
 
 
+def mean_to_two_places(body):
+    if not body:
+        return "exit", 2
+    hundredths = (200 * sum(body) + len(body)) // (2 * len(body))
+    return "reply", b"%d.%02d\n" % divmod(hundredths, 100)
+
+
 def raised_letters(body):
     return "reply", body.upper()
 
@@ -136,7 +143,7 @@ def never(_):
 
 PURPOSES = {
     "echo": echoed, "lines": numbered, "sha256": hashed, "csv": summed, "json": picked, "life": lived, "matrix": raised, "words": counted,
-    "upper": raised_letters, "letters": tallied, "trap": mean, "endless": never,
+    "mean": mean_to_two_places, "upper": raised_letters, "letters": tallied, "trap": mean, "endless": never,
 }  # fmt: skip
 
 # ---- further bodies
@@ -188,6 +195,9 @@ def further(rng):
     for length in (0, 1, 1023, 1024, 1025, 5000):
         yield "upper", words(rng, range(256), length)
         yield "words", words(rng, b"ab \t\n\v\f\r\0\xff", length)
+    for length in (0, 1, 2, 3, 7, 200, 5000):
+        yield "mean", words(rng, range(256), length)
+    yield from (("mean", body) for body in (b"\0", b"\xff" * 300, b"\0\0\1", b"\0" * 199 + b"\1"))
     for text in ("", "\u00df\u1e9e \u00df", "\u3000\u200b\u2003\x1c\x85", "\U0001f600" * 3, "".join(chr(rng.randrange(32, 0x3000)) for _ in range(300))):
         yield "letters", text.encode()
     yield from (("letters", body) for body in (b"\xff", b"a\xc3", b"\xed\xa0\x80"))

@@ -8,15 +8,22 @@ that must be told (and is no part of the file): its line and column, and the byt
 """
 
 import os
+import random
 import subprocess
 import sys
 import tempfile
 
-from lib import usage
+import changed_modules
+import config_table
+from lib import config_reader, usage
 from lib.module_writer import body, module, number, section, signed
 from lib.recordings import MAGIC, begin, close, piece, recording
 from lib.running import PROGRAM, TOP, build, differs, lay
 from lib.whole_modules import ECHO, NOTHING
+
+sys.path.insert(0, os.path.join(TOP, "tools"))
+
+from explaining import configurations, modules  # noqa: E402
 
 EXPLAIN = os.path.join(TOP, "tools", "explain")
 LIMIT = 120  # seconds
@@ -200,7 +207,7 @@ DEBUG = NOTHING + custom(b".debug_info", 3 << 20) + custom(b".debug_str", 2 << 2
 TYPED = "60 04 7F 7F 7F 7F 01 7F"
 
 # the module, the refusal, and what must be told; {at} stands for the place as a byte, in decimal and hexadecimal
-MODULES = [
+MODULE_CASES = [
     (NOTHING[:33], (1, 33), "the file, or a body, ends too early", "where {at}, the end of the file|found 33 bytes, and the section of bodies goes past them"
      "|do Copy the file again, or build it again: a part of it is missing."),
     (FLOAT, (5, 36), "a float operator", "where {at}, in the section of bodies|in function 0 <first>|operator f32.const, number 0 of its body"
@@ -263,7 +270,7 @@ MODULES = [
 
 
 def module_cases():
-    for data, (kind, place), what, lines in MODULES:
+    for data, (kind, place), what, lines in MODULE_CASES:
         due = "file m|" + lines.replace("{at}", "byte %d (hexadecimal %X)" % (place, place))
         yield "module %d" % kind, {"m": data, "b": b""}, ["invoke", "m", "b", "10"], 5, told(5, "module %d 0 %d" % (kind, place), what, due)
     # A route has pages of its own, and is named with its path and its tenant.
@@ -357,6 +364,30 @@ def word_cases():
     yield "units", {"m": NOTHING, "b": b""}, ["invoke", "m", "b", "10"], 0, "units 0\n"
 
 
+# ---- refusals of other checks: each is explained, by the same rule, with an advice
+
+
+def table_results():
+    """The wrong configurations of the table of configurations, and modules that are changed at random."""
+    rng, changed = random.Random(47), 0
+    for name, data in config_table.reads():
+        try:
+            config_reader.read(data)
+        except config_reader.Refused as refused:
+            yield differs("explained: %s" % name, (True, False), has_advice(configurations.explain(refused.number, "c", data)))
+    while changed < 1000:
+        data = changed_modules.changed_module(rng)
+        found = modules.found_by_readers(data, 256)
+        if found:
+            changed += 1
+            yield differs("explained: %s" % data.hex(), (True, False), has_advice(modules.explain(*found, "m", data, 256)))
+
+
+def has_advice(report):
+    """Whether it has an advice, and whether it differs from the readers or breaks a line."""
+    return any(label == "do" for label, _ in report.lines), any(label == "but" or not text.isprintable() for label, text in report.lines)
+
+
 # ---- what the program does not do by itself: scripts in its place, and the outputs
 
 STANDS_IN = [
@@ -435,7 +466,7 @@ def main(given):
     program = os.path.abspath(given[0]) if given else PROGRAM
     if not given:
         build()
-    results = [*case_results(program), *output_results(program), *help_results(), *check_results()]
+    results = [*case_results(program), *table_results(), *output_results(program), *help_results(), *check_results()]
     print("%d passed, %d failed" % (len(results) - sum(results), sum(results)))
     return any(results)
 

@@ -349,6 +349,9 @@ def word_cases():
         "where m, which is {folder}/m|found there is no such file|do Look at the name; %s" % here)  # fmt: skip
     yield "a folder", {"m": NOTHING}, ["invoke", "m", ".", "1"], 3, told(3, "read .", "a file cannot be read: the body",
         "where ., which is {folder}|found it is a folder|do Name a file in it.")  # fmt: skip
+    if os.geteuid() != 0:  # root may read all files
+        yield "not allowed", {"m": None, "b": b""}, ["invoke", "m", "b", "1"], 3, told(3, "read m", "a file cannot be read: the module",
+            "where m, which is {folder}/m|found this user may not read it|do Let this user read it (chmod, chown), and pass through the folders above it.")  # fmt: skip
     yield "no folder", {}, ["check", "x/c"], 3, told(3, "read x/c", "a file cannot be read: the configuration", "where x/c, which is {folder}/x/c|found there is no such file"
         "|do The folder {folder}/x is not there either: look at the path, and at the folder in which the program is started, here {folder}.")  # fmt: skip
     yield "no recording", GOOD, ["replay", "c", "r"], 3, told(3, "read r", "a file cannot be read: the recording",
@@ -408,9 +411,12 @@ def explained(program, given, folder, options=(), **streams):
 
 
 def lay_all(folder, files):
+    """Writes the files, also into folders; one of no bytes at all (None) is there, and this user may not read it."""
     for name in files:
         os.makedirs(os.path.dirname(os.path.join(folder, name)), exist_ok=True)
-    lay(folder, files)
+    lay(folder, {name: data or b"" for name, data in files.items()})
+    for name in (name for name, data in files.items() if data is None):
+        os.chmod(os.path.join(folder, name), 0)
 
 
 def case_results(program):

@@ -54,49 +54,57 @@ def record_of_line(line):
 
 
 class Refused(Exception):
-    pass
+    """The number; the place of the byte that is looked at, from 0 on; the number of its record; and further facts by names."""
+
+    def __init__(self, number, at=0, record=0, **facts):
+        super().__init__(number)
+        self.number, self.at, self.record, self.facts = number, at, record, facts
 
 
 def read(data, tenants):
     if len(data) > MOST_BYTES:
-        raise Refused(76)
+        raise Refused(76, size=len(data))
     if data[:4] != MAGIC:
         raise Refused(70)
     at, last, open_links, records = 4, 0, [], []
+
+    def refuse(number, place, **facts):
+        raise Refused(number, place, len(records), **facts)
+
     while True:
         if at == len(data):
-            raise Refused(71)
+            refuse(71, at, part="the end")
         kind = data[at]
         if kind > 3:
-            raise Refused(72)
+            refuse(72, at, kind=kind)
         if kind == END:
             if at + 1 < len(data):
-                raise Refused(78)
+                refuse(78, at + 1, rest=len(data) - at - 1)
             return records
         if at + 9 > len(data):
-            raise Refused(71)
+            refuse(71, at, part="a record")
         moment, link = struct.unpack_from("<II", data, at + 1)
         if moment < last:
-            raise Refused(73)
+            refuse(73, at, moment=moment, last=last)
         if kind == BEGIN:
             if link != len(open_links):
-                raise Refused(74)
+                refuse(74, at, link=link, next=len(open_links))
         elif link >= len(open_links) or not open_links[link]:
-            raise Refused(74)
+            refuse(74, at, link=link, kind=kind, begun=link < len(open_links))
         number, end = None, at + 9
         if kind != CLOSE:
             if at + 13 > len(data):
-                raise Refused(71)
+                refuse(71, at, part="a record")
             (number,) = struct.unpack_from("<I", data, at + 9)
             end = at + 13
         if kind == PIECE:
             end += number
             if end > len(data):
-                raise Refused(71)
+                refuse(71, at, part="a piece", length=number, left=len(data) - at - 13)
         if link >= MOST_CONNECTIONS:
-            raise Refused(76)
+            refuse(76, at, link=link)
         if kind == BEGIN and number >= tenants:
-            raise Refused(75)
+            refuse(75, at, link=link, tenant=number, tenants=tenants)
         if kind == BEGIN:
             open_links.append(True)
             records.append("begin %d %d %d" % (moment, link, number))

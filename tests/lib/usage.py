@@ -1,5 +1,6 @@
 """The words of a check of `tests/`, which are looked at before anything is built or run."""
 
+import os
 import sys
 
 
@@ -10,7 +11,7 @@ def only(shapes, words, text):
         print(text.strip())
         sys.exit(0)
     if not any(len(shape) == len(words) and all(kind(word) for kind, word in zip(shape, words)) for shape in shapes):
-        print("%s: no such words: %s; --help shows those that there are" % (sys.argv[0], " ".join(words)), file=sys.stderr)
+        print("%s: no such words: %s; --help shows those that there are" % (os.path.basename(sys.argv[0]), " ".join(words)), file=sys.stderr)
         sys.exit(2)
 
 
@@ -21,3 +22,8 @@ def none(words, text):
 
 def is_number(word):
     return word.isascii() and word.isdigit()
+
+
+def counts(words, text):
+    """The check takes a count and a seed, or a count, or nothing."""
+    only([[], [is_number], [is_number, is_number]], words, text)

@@ -1,13 +1,16 @@
 #!/usr/bin/env python3
 """Runs the tools that make recordings, and compares what they leave with what is right.
 
-    tools_recordings.py
+    tools_recordings.py [PROGRAM]      PROGRAM is the built program; where none is named, that of this checkout is built where it is not
 
 - `tools/record write`: recordings of lines, and of each wrong line the number and what is told. What is due is written out here by hand.
 - `tools/record listen`: clients send through the proxy to a server that is made here; the recording has what each of them sent.
+- The rows of "Admission" in docs/FORMATS.md: they are reckoned here, and the program answers a recording of them with these statuses.
 """
 
+import json
 import os
+import re
 import signal
 import socket
 import subprocess
@@ -17,7 +20,8 @@ import threading
 
 from lib import recordings, usage
 from lib.recordings import begin, close, piece
-from lib.running import TOP, differs, lay
+from lib.running import PROGRAM, TOP, build, differs, lay
+from lib.whole_modules import NOTHING
 
 RECORD = os.path.join(TOP, "tools", "record")
 LIMIT = 60  # seconds
@@ -274,11 +278,57 @@ def with_traffic(folder):
         yield "what was recorded", SENT, connections(recordings.read(file.read(), 8))
 
 
+# ---- the rows of a page
+
+CAPACITY, RATE, ESTIMATES = 1000, 10, {"/a": 400, "/b": 700}
+
+
+def reckoned(asked):
+    """The row of each request, a moment and a path: the level before and with the estimate, what comes, and the level behind."""
+    level, last, rows = 0, 0, []
+    for moment, path in asked:
+        if path not in ESTIMATES:
+            rows.append(("", "", "404", level))
+            continue
+        before, last = max(0, level - RATE * (moment - last)), moment
+        enters = before + ESTIMATES[path] <= CAPACITY
+        level = before + ESTIMATES[path] if enters else before
+        rows.append((before, before + ESTIMATES[path], "enters" if enters else "503", level))
+    return rows
+
+
+def with_rows(folder, program):
+    """The rows of "Admission", and what the program answers to a recording of their requests, which come on a connection each."""
+    with open(os.path.join(TOP, "docs", "FORMATS.md"), encoding="utf-8") as file:
+        section = file.read().split("\n## Admission\n")[1].split("\n## ")[0]
+    row = r"^\| (\d+) \| `(/\w+)` \| (\d*) ?\| (\d*) ?\| (enters|503|404)[^|]* \| (\d+) \|$"
+    rows = [(int(moment), path, *rest) for moment, path, *rest in re.findall(row, section, re.M)]
+    asked = [(moment, path) for moment, path, *_ in rows]
+    yield "the rows of Admission", [tuple(map(str, row)) for row in reckoned(asked)], [tuple(row[2:]) for row in rows]
+    yield "all rows are looked at", len(re.findall(r"^\| \d", section, re.M)), len(rows)
+    routes = [{"path": path, "module": "nil", "budget": 10, "pages": 1, "estimate": estimate, "deadline": 5} for path, estimate in ESTIMATES.items()]
+    tenant = {"name": "a", "port": 1, "capacity": CAPACITY, "rate": RATE, "routes": routes}
+    config = {"workers": 1, "quantum": 10, "policy": "rr", "berths": 1, "tenants": [tenant]}
+    lines = ["begin 0 %d 0" % link for link in range(len(asked))]
+    lines += ["request %d %d GET %s" % (moment, link, path) for link, (moment, path) in enumerate(asked)]
+    lay(folder, {"l": "\n".join(lines).encode(), "nil": NOTHING, "rows": json.dumps(config).encode()})
+    yield "a recording of the rows", (0, b"", ""), ran([RECORD, "write", "l", "r", "rows"], folder)
+    _, answers, note = ran([program, "replay", "rows", "r"], folder)
+    admitted = sum(row[4] == "enters" for row in rows)
+    yield "their summary", "requests %d admitted %d started %d turns %d units 0\n" % (len(rows), admitted, admitted, admitted), note
+    statuses = {"enters": "200", "503": "503", "404": "404"}
+    yield "their answers", [statuses[row[4]] for row in rows], re.findall(r"HTTP/1\.1 (\d+)", answers.decode())
+
+
 def main(words):
-    usage.none(words, __doc__)
+    usage.only([[], [os.path.isfile]], words, __doc__)
+    program = os.path.abspath(words[0]) if words else PROGRAM
+    if not words:
+        build()
     with tempfile.TemporaryDirectory() as folder:
         lay(folder, {**FILES, "large": bytes(1 << 20), "cut": recordings.recording([begin(0, 0, 0)])[:-1]})
         results = [differs(*result) for results_of in (with_lines, with_traffic) for result in results_of(folder)]
+        results += [differs(*result) for result in with_rows(folder, program)]
     results += [differs(*result) for results_of in (with_the_example, with_help) for result in results_of()]
     print("%d passed, %d failed" % (len(results) - sum(results), sum(results)))
     return any(results)

@@ -6,7 +6,7 @@
 - `tools/record write`: recordings of lines, and of each wrong line the number and what is told. What is due is written out here by hand.
 - `tools/record listen`: clients send through the proxy to a server that is made here; the recording has what each of them sent.
 - The rows of "Admission" in docs/FORMATS.md: they are reckoned here, and the program answers a recording of them with these statuses.
-- Modules are found from the folder of the process on.
+- Modules are found from the folder of the process on. The program names libc alone of libraries, and a copy of it runs by itself.
 - docs/OPERATIONS.md: each command that stands behind `$` is run, and must say what stands below it. What the page says of units, answers
   and meters is reckoned here besides, by the interpreter in Python.
 """
@@ -14,14 +14,17 @@
 import json
 import os
 import re
+import shutil
 import signal
 import socket
+import struct
 import subprocess
 import sys
 import tempfile
 import threading
 
-from lib import config_reader, interpreter, module_validator, recordings, replays, usage
+from lib import operations_example as example
+from lib import recordings, usage
 from lib.recordings import begin, close, piece
 from lib.running import PROGRAM, TOP, build, differs, lay
 from lib.whole_modules import NOTHING
@@ -337,145 +340,49 @@ def with_folders(folder, program):
     yield "a module that begins with /", (0, b"tenants 1 routes 1\n", ""), ran([program, "check", "inner/config"], folder)
 
 
+# ---- the program's own file
+
+LOAD, DYNAMIC = 1, 2
+NEEDED, STRINGS = 1, 5
+
+
+def needed(data):
+    """The libraries that a program of ELF (64 bits, the lowest byte first) names, after the System V ABI, chapter 5."""
+    start, size, count = struct.unpack_from("<Q", data, 32)[0], *struct.unpack_from("<HH", data, 54)
+    segments = [struct.unpack_from("<IIQQQQ", data, start + at * size) for at in range(count)]
+    entries = [struct.iter_unpack("<QQ", data[offset : offset + length]) for kind, _, offset, _, _, length in segments if kind == DYNAMIC]
+    found = [entry for segment in entries for entry in segment]
+    address = next(value for tag, value in found if tag == STRINGS)
+    strings = next(address - at + offset for kind, _, offset, at, _, length in segments if kind == LOAD and at <= address < at + length)
+    places = [strings + value for tag, value in found if tag == NEEDED]
+    return [data[place : data.index(b"\0", place)].decode() for place in places]
+
+
+def with_the_program(program):
+    with open(program, "rb") as file:
+        yield "the libraries of the program", ["libc.so.6"], needed(file.read())
+    with tempfile.TemporaryDirectory() as folder:
+        shutil.copy(program, os.path.join(folder, "copy"))
+        done = subprocess.run(["./copy", "--version"], cwd=folder, env={}, capture_output=True, timeout=LIMIT)
+        yield "a copy of the program", (0, b"Cavundel 0.1.0\n", b""), (done.returncode, done.stdout, done.stderr)
+
+
 # ---- the example of docs/OPERATIONS.md
-
-OPERATIONS = os.path.join(TOP, "examples", "operations")
-# The tenants in their order, each with the bodies that it sends usually and at most.
-TENANTS = {"weather": ("day", "week"), "archive": ("letter", "report"), "shop": ("order", "bulk")}
-
-
-def example_file(name):
-    with open(os.path.join(OPERATIONS, name), "rb") as file:
-        return file.read()
-
-
-def example_config(name):
-    """A configuration of the example, whose modules are laid for the interpreter."""
-    config = config_reader.read(example_file(name))
-    for route in config_reader.routes_of(config):
-        with open(os.path.join(TOP, route["module"]), "rb") as file:
-            replays.MODULES[route["module"]] = file.read()
-    return config
-
-
-def example_requests():
-    """Moment, link and item of each request of the example's lines, which are read word by word here."""
-    for line in example_file("lines").decode().splitlines():
-        words = line.split(" ", 6)
-        if words[0] == "request":
-            body = example_file(words[6]) if words[5] == "file" else words[6].replace("\\n", "\n").encode()
-            item = replays.request(words[3].encode(), words[4].encode(), body, lines=[])
-            item.data = item.data.replace(b"Host: x", b"Host: localhost")
-            yield int(words[1]), int(words[2]), item
-
-
-def example_recording():
-    records = [begin(0, link, link) for link in range(3)]
-    records += [piece(moment, link, item.data) for moment, link, item in example_requests()]
-    return recordings.recording(records + [close(1000, link) for link in range(3)])
-
-
-def account(tenant, asked):
-    """What becomes of the requests (a moment and an item) of a tenant with one route: how many there are, the statuses of the replies, the
-    estimates that are let in, and the prices of each request that is."""
-    route, level, last, statuses, let_in, spent = tenant["routes"][0], 0, 0, [], 0, []
-    for moment, item in asked:
-        level, last = max(0, level - tenant["rate"] * (moment - last)), moment
-        if level + route["estimate"] > tenant["capacity"]:
-            statuses.append(503)
-            continue
-        level, let_in = level + route["estimate"], let_in + route["estimate"]
-        verdict, prices = replays.ran(route["module"], item.body, route["budget"], route["pages"])
-        statuses.append(200 if verdict[0] == "reply" else 504 if verdict[0] == "spent" else 500)
-        spent.append(prices)
-    return len(statuses), statuses, let_in, spent
-
-
-def accounts(config):
-    asked = list(example_requests())
-    return [account(tenant, [(moment, item) for moment, at, item in asked if at == link]) for link, tenant in enumerate(config["tenants"])]
-
-
-def summary(config):
-    """The note that a replay of the example must leave."""
-    found = accounts(config)
-    spent = [prices for _, _, _, requests in found for prices in requests]
-    total, turns, units = sum(count for count, *_ in found), sum(interpreter.turns(prices, config["quantum"]) for prices in spent), sum(map(sum, spent))
-    return "requests %d admitted %d started %d turns %d units %d" % (total, len(spent), len(spent), turns, units)
-
-
-def units(name, body):
-    return sum(interpreter.run(module_validator.decode(replays.MODULES["examples/%s/%s.wasm" % (name, name)]), body, 10**9)[1])
-
-
-def page_rows(page, heading):
-    """The rows of the tables below a heading of the page, without commas in numbers."""
-    section = page.split("\n### %s\n" % heading)[1].split("\n## ")[0].split("\n### ")[0]
-    rows = [[cell.strip(" `") for cell in line.strip("|").split("|")] for line in section.splitlines() if line.startswith("| `")]
-    return [[re.sub(r"(?<=\d),(?=\d{3})", "", cell) for cell in row] for row in rows]
-
-
-def commands(page):
-    """Each command of the page behind `$`, and what stands below it."""
-    found = []
-    for line in page.splitlines():
-        if line.startswith("    $ "):
-            found.append((line[6:], []))
-        elif line.startswith("    ") and found and found[-1][1] is not None:
-            found[-1][1].append(line[4:])
-        elif found and found[-1][1] is not None:
-            found[-1] = found[-1][0], tuple(found[-1][1])
-            found.append((None, None))
-    return [(command, "".join(line + "\n" for line in told)) for command, told in found if command]
-
-
-def wishes(page):
-    """Of each tenant how many requests it wishes at once, and in a second."""
-    return [(int(row[4]), int(row[5])) for row in page_rows(page, "What they wish")]
-
-
-def with_tables(page):
-    """What the tables of the page say, and what is reckoned of it."""
-    first, better = example_config("first.json"), example_config("better.json")
-    sizes = [[units(name, example_file(body)) for body in bodies] for name, bodies in zip(("csv", "sha256", "json"), TENANTS.values())]
-    decoded = [module_validator.decode(replays.MODULES[route["module"]]) for route in config_reader.routes_of(first)]
-    due = [[name, *map(str, size), str(module.memories[0][0])] for name, size, module in zip(TENANTS, sizes, decoded)]
-    yield "units and pages of the example", due, page_rows(page, "What a request takes")
-    rows, wished = [], wishes(page)
-    for tenant, (at_once, second) in zip(first["tenants"], wished):
-        budget = tenant["routes"][0]["budget"]
-        rows.append([tenant["name"], str(budget), "%d × %d = %d" % (at_once, budget, at_once * budget), "%d × %d / 1000 = %d" % (second, budget, second * budget // 1000)])
-    yield "the first configuration", rows, page_rows(page, "A first configuration")
-    for tenant, row in zip(first["tenants"], rows):
-        route = tenant["routes"][0]
-        numbers = [route["budget"], route["estimate"], tenant["capacity"], tenant["rate"]]
-        yield "the numbers of first.json", [int(row[1]), int(row[1]), *(int(cell.split(" ")[-1]) for cell in row[2:])], numbers
-    rows = []
-    for name, (count, statuses, let_in, spent) in zip(TENANTS, accounts(first)):
-        total = sum(map(sum, spent))
-        rows.append([name, *map(str, [count, *(statuses.count(status) for status in (200, 500, 503)), let_in, total, round(total / len(spent))])])
-    yield "the answers of the example", rows, page_rows(page, "Its answers")
-    rows = []
-    for tenant in better["tenants"]:
-        route = tenant["routes"][0]
-        ratio = route["budget"] / route["estimate"]
-        rows.append([tenant["name"], str(tenant["rate"]), "%.3g" % ratio, "%.0f" % (tenant["rate"] * ratio)])
-    yield "what better estimates may cost", rows, page_rows(page, "Better estimates")
 
 
 def with_page(program):
     """The page's commands are run in a folder that looks like the top of the repository."""
     with open(os.path.join(TOP, "docs", "OPERATIONS.md"), encoding="utf-8") as file:
         page = file.read()
-    yield from with_tables(page)
+    yield from example.with_tables(page)
     due = {
-        "first.json recording >answers": summary(example_config("first.json")) + "\n",
-        "better.json recording >answers": summary(example_config("better.json")) + "\n",
+        "first.json recording >answers": example.summary(example.config("first.json")) + "\n",
+        "better.json recording >answers": example.summary(example.config("better.json")) + "\n",
     }
     with tempfile.TemporaryDirectory() as folder:
         for name, target in (("sledge", program), *((name, os.path.join(TOP, name)) for name in ("examples", "tests", "tools"))):
             os.symlink(target, os.path.join(folder, name))
-        found = commands(page)
+        found = example.commands(page)
         yield "how many commands the page has", 6, len(found)
         for command, told in found:
             _, out, notes = ran(["bash", "-c", command], folder)
@@ -483,8 +390,8 @@ def with_page(program):
             yield from (("what is reckoned of %s" % end, line, told) for end, line in due.items() if command.endswith(end))
         with open(os.path.join(folder, "recording"), "rb") as file:
             data = file.read()
-        yield "the recording of the example", example_recording(), data
-        yield "examples/operations/recording", data, example_file("recording")
+        yield "the recording of the example", example.recording(), data
+        yield "examples/operations/recording", data, example.content("recording")
 
 
 def main(words):
@@ -497,7 +404,7 @@ def main(words):
         results = [differs(*result) for results_of in (with_lines, with_traffic) for result in results_of(folder)]
         results += [differs(*result) for results_of in (with_rows, with_folders) for result in results_of(folder, program)]
     results += [differs(*result) for results_of in (with_the_example, with_help) for result in results_of()]
-    results += [differs(*result) for result in with_page(program)]
+    results += [differs(*result) for results_of in (with_the_program, with_page) for result in results_of(program)]
     print("%d passed, %d failed" % (len(results) - sum(results), sum(results)))
     return any(results)
 

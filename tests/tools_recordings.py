@@ -4,7 +4,8 @@
     tools_recordings.py [PROGRAM]      PROGRAM is the built program; where none is named, that of this checkout is built where it is not
 
 - `tools/record write`: recordings of lines, and of each wrong line the number and what is told. What is due is written out here by hand.
-- `tools/record listen`: clients send through the proxy to a server that is made here; the recording has what each of them sent.
+- `tools/record listen`: clients send through the proxy to a server that is made here; the recording has what each of them sent, and what it
+  has at the limits is a recording.
 - The rows of "Admission" in docs/FORMATS.md: they are reckoned here, and the program answers a recording of them with these statuses.
 - Modules are found from the folder of the process on. The program names libc alone of libraries, and a copy of it runs by itself.
 - docs/OPERATIONS.md: each command that stands behind `$` is run, and must say what stands below it. What the page says of units, answers
@@ -28,6 +29,10 @@ from lib import recordings, usage
 from lib.recordings import begin, close, piece
 from lib.running import PROGRAM, TOP, build, differs, lay
 from lib.whole_modules import NOTHING
+
+sys.path.insert(0, os.path.join(TOP, "tools"))
+
+from recording import traffic  # noqa: E402
 
 RECORD = os.path.join(TOP, "tools", "record")
 LIMIT = 60  # seconds
@@ -284,6 +289,26 @@ def with_traffic(folder):
         yield "what was recorded", SENT, connections(recordings.read(file.read(), 8))
 
 
+def with_limits():
+    """A recorder at the limits: what it has recorded is a recording, which ends where it was full."""
+    told = []
+    recorder = traffic.Recorder([], told.append)
+    links = [recorder.begin(0) for _ in range(1026)]
+    recorder.piece(5, b"late")
+    full = "1024 connections are recorded; what comes from now on is passed on, and is not in it"
+    yield "connections past the limit", (list(range(1024)) + [None] * 2, [full], 1024), (links, told, len(recordings.read(recorder.recording(), 1)))
+    told.clear()
+    recorder = traffic.Recorder([], told.append)
+    link, part = recorder.begin(0), bytes(1 << 20)
+    for _ in range(32):
+        recorder.piece(link, part)
+    recorder.piece(link, b"small")
+    recorder.close(link)
+    full = "the recording is full; what comes from now on is passed on, and is not in it"
+    found = connections(recordings.read(recorder.recording(), 1))
+    yield "bytes past the limit", ([(0, bytes(31 << 20), False)], [full], 31 << 20), (found, told, recorder.received)
+
+
 # ---- the rows of a page
 
 CAPACITY, RATE, ESTIMATES = 1000, 10, {"/a": 400, "/b": 700}
@@ -403,7 +428,7 @@ def main(words):
         lay(folder, {**FILES, "large": bytes(1 << 20), "cut": recordings.recording([begin(0, 0, 0)])[:-1]})
         results = [differs(*result) for results_of in (with_lines, with_traffic) for result in results_of(folder)]
         results += [differs(*result) for results_of in (with_rows, with_folders) for result in results_of(folder, program)]
-    results += [differs(*result) for results_of in (with_the_example, with_help) for result in results_of()]
+    results += [differs(*result) for results_of in (with_the_example, with_help, with_limits) for result in results_of()]
     results += [differs(*result) for results_of in (with_the_program, with_page) for result in results_of(program)]
     print("%d passed, %d failed" % (len(results) - sum(results), sum(results)))
     return any(results)

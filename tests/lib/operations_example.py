@@ -34,7 +34,7 @@ def requests():
         words = line.split(" ", 6)
         if words[0] == "request":
             body = content(words[6]) if words[5] == "file" else words[6].replace("\\n", "\n").encode()
-            item = replays.request(words[3].encode(), words[4].encode(), body, lines=[])
+            item = replays.request(words[3].encode(), words[4].encode(), body)
             item.data = item.data.replace(b"Host: x", b"Host: localhost")
             yield int(words[1]), int(words[2]), item
 

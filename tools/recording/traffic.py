@@ -11,8 +11,6 @@ from lib import recordings, tool
 MOST_READ = 1 << 16
 HOME = "127.0.0.1"
 CONNECT_LIMIT, CLOSE_LIMIT = 10, 5  # seconds
-# The records of what is still to come have to fit behind each piece: a close for each connection.
-SPARE = recordings.MOST_CONNECTIONS * len(recordings.close(0, 0))
 
 
 def address(word):
@@ -51,9 +49,9 @@ class Recorder:
 
     # ---- records
 
-    def add(self, record, spare=SPARE):
+    def add(self, record):
         """Adds a record, or none any more where it has no room: a recording without a part in its middle would be of something that never was."""
-        if not self.full and self.size + len(record) + spare > recordings.MOST_BYTES:
+        if not self.full and self.size + len(record) > recordings.MOST_BYTES:
             self.full = True
             self.tell("the recording is full; what comes from now on is passed on, and is not in it")
         if not self.full:
@@ -82,7 +80,7 @@ class Recorder:
     def close(self, link):
         if link in self.open_links:
             self.open_links.discard(link)
-            self.add(recordings.close(self.moment(), link), spare=0)
+            self.add(recordings.close(self.moment(), link))
 
     # ---- one connection
 

@@ -1,9 +1,9 @@
 #!/usr/bin/env python3
-"""Runs the tools for recordings, and compares what they say with what is right.
+"""Runs `tools/show` on recordings and answers, and compares what it says with what is right.
 
-    tools_recordings.py [PROGRAM]      PROGRAM is the built program; where none is named, that of this checkout is built where it is not
+    tools_show.py [PROGRAM]      PROGRAM is the built program; where none is named, that of this checkout is built where it is not
 
-`tools/show`: recordings and answers are made here, and what stands in each row was written out by hand from docs/FORMATS.md; units and turns are
+Recordings and answers are made here, and what stands in each row was written out by hand from docs/FORMATS.md; units and turns are
 those of the interpreter in Python. Recordings made at random have the summary that is reckoned apart (tests/lib/replays.py).
 """
 

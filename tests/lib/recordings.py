@@ -14,6 +14,7 @@ import sys
 
 MAGIC = b"SLR1"
 END, BEGIN, PIECE, CLOSE = range(4)
+NAMES = ("end", "begin", "piece", "close")
 MOST_BYTES = 32 * 1024 * 1024
 MOST_CONNECTIONS = 1024
 
@@ -61,7 +62,8 @@ class Refused(Exception):
         self.number, self.at, self.record, self.facts = number, at, record, facts
 
 
-def read(data, tenants):
+def read_records(data, tenants):
+    """Each record as its kind, moment and link, and its tenant, its bytes or None."""
     if len(data) > MOST_BYTES:
         raise Refused(76, size=len(data))
     if data[:4] != MAGIC:
@@ -107,13 +109,23 @@ def read(data, tenants):
             refuse(75, at, link=link, tenant=number, tenants=tenants)
         if kind == BEGIN:
             open_links.append(True)
-            records.append("begin %d %d %d" % (moment, link, number))
+            records.append((BEGIN, moment, link, number))
         elif kind == PIECE:
-            records.append("piece %d %d %s" % (moment, link, data[at + 13 : end].hex() or "-"))
+            records.append((PIECE, moment, link, data[at + 13 : end]))
         else:
             open_links[link] = False
-            records.append("close %d %d" % (moment, link))
+            records.append((CLOSE, moment, link, None))
         at, last = end, moment
+
+
+def told(kind, moment, link, value):
+    """A record in words."""
+    rest = {BEGIN: lambda: " %d" % value, PIECE: lambda: " " + (value.hex() or "-"), CLOSE: lambda: ""}[kind]()
+    return "%s %d %d%s" % (NAMES[kind], moment, link, rest)
+
+
+def read(data, tenants):
+    return [told(*record) for record in read_records(data, tenants)]
 
 
 def answer(data, tenants):

@@ -44,10 +44,10 @@ class Checkout:
             with open(path, "w", encoding="utf-8") as file:
                 file.write(text)
 
-    def run(self, script=None, with_rt=True):
+    def run(self, script=None, with_rt=True, **said):
         """Exit status, standard output, how many lines of standard error there are, and how many builds there were so far."""
-        path = (self.tools + ":" if with_rt else "") + "/usr/bin:/bin"
-        done = subprocess.run([script or os.path.join(self.top, "sledge"), "a", "b"], capture_output=True, timeout=LIMIT, env={"PATH": path})
+        env = {"PATH": (self.tools + ":" if with_rt else "") + "/usr/bin:/bin", **said}
+        done = subprocess.run([script or os.path.join(self.top, "sledge"), "a", "b"], capture_output=True, timeout=LIMIT, env=env)
         builds = os.path.join(self.top, "builds")
         count = open(builds, encoding="utf-8").read().count("\n") if os.path.exists(builds) else 0
         return done.returncode, done.stdout.decode(), done.stderr.count(b"\n"), count
@@ -105,6 +105,9 @@ def builds(checkout):
     status, _, _, count = checkout.run()
     yield "a build that is broken off", (True, 14), (status != 3, count)
     yield "is made again", ran(15, 1, 15), checkout.run()
+    checkout.write({"crates/a/src/lib.rt": "of the gate"})
+    yield "what the gate says is built", ran(15, 0, 15), checkout.run(SLEDGE_IS_BUILT="1")
+    yield "is built then", ran(15, 0, 15), checkout.run()
 
 
 def main(words):

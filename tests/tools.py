@@ -358,7 +358,12 @@ def word_cases():
         "where r, which is {folder}/r|found there is no such file|do Look at the name; %s" % here)  # fmt: skip
     yield "a module beside the configuration", {"d/c": BASE.encode(), "e": ECHO, "d/n": NOTHING}, ["check", "d/c"], 3, told(
         3, "read n", "a file cannot be read: the module of route 1, /nil of the tenant a (tenants[0].routes[1])",
-        "where n, which is {folder}/n|found there is no such file|but beside the configuration there is d/n"
+        "where n, which is {folder}/n|found there is no such file|but in the folder {folder}/d it is that of a file"
+        "|do Names of modules are relative to the folder in which the program is started, here {folder}: start it in {folder}/d, or write the path from here.")  # fmt: skip
+    config = BASE.replace('"module": "n"', '"module": "x/n"').encode()
+    yield "a module above the configuration", {"d/x/y/c": config, "e": ECHO, "d/x/n": NOTHING}, ["check", "d/x/y/c"], 3, told(
+        3, "read x/n", "a file cannot be read: the module of route 1, /nil of the tenant a (tenants[0].routes[1])",
+        "where x/n, which is {folder}/x/n|found there is no such file|but in the folder {folder}/d it is that of a file"
         "|do Names of modules are relative to the folder in which the program is started, here {folder}: start it in {folder}/d, or write the path from here.")  # fmt: skip
     # What is accepted is told by the program alone, but for a route that can never be used.
     yield "accepted", GOOD, ["check", "c"], 0, ""

@@ -200,7 +200,7 @@ OBJECT = OBJECT[:30] + bytes([12, 1, 0]) + OBJECT[30:] + custom(b"linking", 4)
 RANDOM = named(
     module(types=CALLS, imports=[imported(WASI, b"fd_write", "00 01"), imported(WASI, b"random_get", "00 02")], functions=["00"], exports=[START + "02"],
            bodies=["41 00 41 00 10 01 1A"]),
-    {0: b"write", 1: b"random_get", 2: b"seed_of_map"},
+    {0: b"write", 1: b"random_get", 2: b"_ZN3std4hash5seeds18_$LT$map$u20$A$GT$17h0123456789abcdefE.llvm.1"},
 )  # fmt: skip
 UNDEFINED = named(module(imports=[imported(b"env", b"memset", "00 00")], functions=["00"], exports=[START + "01"], bodies=["10 00"]), {1: b"clear"})
 DEBUG = NOTHING + custom(b".debug_info", 3 << 20) + custom(b".debug_str", 2 << 20) + custom(b"producers", 100)
@@ -247,7 +247,7 @@ MODULE_CASES = [
     (module(functions=["00"], exports=[START + "00", START + "00"], bodies=[""]), (37, 1), "two exports with one name", "where export 1 of the file, from 0 on"
      "|found the export _start|do Name one of them otherwise."),
     (RANDOM, (50, 1), "an import that is none of the host's three",
-     "where import 1, the function random_get of the module wasi_snapshot_preview1 of type (i32 i32) -> (i32)|callers function 2 <seed_of_map>"
+     "where import 1, the function random_get of the module wasi_snapshot_preview1 of type (i32 i32) -> (i32)|callers function 2 <std::hash::seeds::<map A>>"
      "|do There are no random numbers: take out what asks for them; in Rust the usual HashMap does, and a BTreeMap or the map of examples/letters does not."),
     (named(FLOAT[: FLOAT.rindex(b"\x04name") - 2], {0: b"a\x1b[2J\n\xff"}), (5, 36), "a float operator", "where {at}, in the section of bodies|in function 0 <a\\x1b[2J\\n\ufffd>"
      "|operator f32.const, number 0 of its body|floats function 0 <a\\x1b[2J\\n\ufffd>: 3 float operators, the first f32.const at byte 36|" + NO_FLOATS),
@@ -358,7 +358,12 @@ def word_cases():
         "where r, which is {folder}/r|found there is no such file|do Look at the name; %s" % here)  # fmt: skip
     yield "a module beside the configuration", {"d/c": BASE.encode(), "e": ECHO, "d/n": NOTHING}, ["check", "d/c"], 3, told(
         3, "read n", "a file cannot be read: the module of route 1, /nil of the tenant a (tenants[0].routes[1])",
-        "where n, which is {folder}/n|found there is no such file|but beside the configuration there is d/n"
+        "where n, which is {folder}/n|found there is no such file|but in the folder {folder}/d it is that of a file"
+        "|do Names of modules are relative to the folder in which the program is started, here {folder}: start it in {folder}/d, or write the path from here.")  # fmt: skip
+    config = BASE.replace('"module": "n"', '"module": "x/n"').encode()
+    yield "a module above the configuration", {"d/x/y/c": config, "e": ECHO, "d/x/n": NOTHING}, ["check", "d/x/y/c"], 3, told(
+        3, "read x/n", "a file cannot be read: the module of route 1, /nil of the tenant a (tenants[0].routes[1])",
+        "where x/n, which is {folder}/x/n|found there is no such file|but in the folder {folder}/d it is that of a file"
         "|do Names of modules are relative to the folder in which the program is started, here {folder}: start it in {folder}/d, or write the path from here.")  # fmt: skip
     # What is accepted is told by the program alone, but for a route that can never be used.
     yield "accepted", GOOD, ["check", "c"], 0, ""

@@ -96,19 +96,28 @@ def cause_of(path):
     return None
 
 
-def explain_read(name, role, beside=None):
-    """The file of this role in the command; `beside` is the configuration that names it, where one does."""
+def folder_of(name, config):
+    """The folder of the configuration, or the nearest one above it, from which a relative name is that of a file; or None."""
+    folder = os.path.dirname(os.path.abspath(config))
+    while not os.path.isfile(os.path.join(folder, name)):
+        if folder == os.path.dirname(folder):
+            return None
+        folder = os.path.dirname(folder)
+    return folder
+
+
+def explain_read(name, role, config=None):
+    """The file of this role in the command, and the configuration that names it, where one does."""
     report = Report()
     report.add("what", "a file cannot be read: %s" % role)
     report.add("where", "%s, which is %s" % (name or "an empty name", os.path.abspath(name)))
     cause = cause_of(name)
     report.add("found", cause or "it can be read now: it was not there, or could not be read, when the program ran")
     parent = os.path.dirname(os.path.abspath(name))
-    other = beside and os.path.join(os.path.dirname(beside), name)
-    if other and os.path.isfile(other) and not os.path.isabs(name):
-        report.add("but", "beside the configuration there is %s" % other)
-        report.add("do", "Names of modules are relative to the folder in which the program is started, here %s: start it in %s, or write the path from here." % (
-            os.getcwd(), os.path.dirname(os.path.abspath(beside))))  # fmt: skip
+    other = folder_of(name, config) if config and name and not os.path.isabs(name) else None
+    if other:
+        report.add("but", "in the folder %s it is that of a file" % other)
+        report.add("do", "Names of modules are relative to the folder in which the program is started, here %s: start it in %s, or write the path from here." % (os.getcwd(), other))
     elif cause == "it is a folder":
         report.add("do", "Name a file in it.")
     elif cause == "there is no such file" and not os.path.isdir(parent):

@@ -4,6 +4,8 @@ It reads more than the program takes (floating point, and what later versions of
 then it knows what stood before. After WebAssembly Core 1.0 and 2.0, chapter 5 and appendix "Custom Sections".
 """
 
+import re
+
 I32, I64, F32, F64 = 0x7F, 0x7E, 0x7D, 0x7C
 TYPE_NAMES = {I32: "i32", I64: "i64", F32: "f32", F64: "f64", 0x7B: "v128", 0x70: "funcref", 0x6F: "externref", 0x40: "no result"}
 FLOATS = (F32, F64)
@@ -150,6 +152,27 @@ def operator(scan):
     return Operator(place, scan.at, NAMES[code], index)
 
 
+RUST_ESCAPES = {"$LT$": "<", "$GT$": ">", "$u20$": " ", "$RF$": "&", "$BP$": "*", "$C$": ",", "$LP$": "(", "$RP$": ")", "$u7b$": "{", "$u7d$": "}", "..": "::"}
+
+
+def plain(name):
+    """The name of a function of Rust as it stands in its source, of a name that rustc has mangled (its older form); each other name as it is."""
+    mangled = re.match(r"_ZN(.*?)17h[0-9a-f]{16}E", name)
+    parts, rest = [], mangled[1] if mangled else ""
+    while rest:
+        size = re.match(r"[0-9]{1,4}", rest)
+        end = size.end() + int(size[0]) if size else len(rest) + 1
+        if end > len(rest):
+            return name
+        part = rest[size.end() : end]
+        parts.append(part[1:] if part.startswith("_$") else part)
+        rest = rest[end:]
+    found = "::".join(parts) or name
+    for escape, letter in RUST_ESCAPES.items() if mangled else ():
+        found = found.replace(escape, letter)
+    return found
+
+
 class Section:
     def __init__(self, number, place, begin, end):
         self.number, self.place, self.begin, self.end, self.custom = number, place, begin, end, None
@@ -275,7 +298,7 @@ class Survey:
         imported = self.imported()
         if not name and index < len(imported):
             name = imported[index][0][1]
-        return "function %d%s" % (index, " <%s>" % name if name else "")
+        return "function %d%s" % (index, " <%s>" % plain(name) if name else "")
 
     def type_of(self, index):
         """The type of a function: its parameters and its results, or None."""

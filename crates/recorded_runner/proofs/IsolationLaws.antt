@@ -1,5 +1,5 @@
 -- Each tenant's replies are those that it has alone.
-use Rattle.std.proofs.Common.{◌≡◌, ℕ, suc, ◌+◌, ◌^◌, ◌<◌, Bool, true, false, cond, ◌==◌, if◌then◌else◌, List, [], ◌∷◌, ◌++◌, length, filter, take, drop, get_or, refl, sym, ap, ap₂, ◌∙◌, arith}
+use Rattle.std.proofs.Common.{◌≡◌, ℕ, zero, suc, ◌+◌, ◌^◌, ◌<◌, ◌≤◌, Bool, true, false, cond, ◌==◌, if◌then◌else◌, List, [], ◌∷◌, ◌++◌, length, filter, take, drop, get_or, refl, sym, ap, ap₂, ◌∙◌, arith, length-append}
 use Rattle.std.proofs.Math.Seq.{drop-append_seam, take-append_seam}
 use Rattle.std.proofs.lemmas.Nat.{from_le_bytes-to_le_bytes_4}
 use Rattle.std.specs.Int.{w32, to_le_bytes, from_le_bytes}
@@ -11,7 +11,7 @@ use Rattle.wasm_meaning.specs.Programs.{Program}
 use Rattle.recorded_runner.specs.Alone.{alone}
 use Rattle.recorded_runner.specs.Fates.{decided}
 use Rattle.recorded_runner.specs.Readings.{replies_ahead, replies_in, those_of, replies_to}
-use Rattle.recorded_runner.specs.ReplayText.{connection_text, replies_on, texts_from, replay_text}
+use Rattle.recorded_runner.specs.ReplayText.{answers_magic, connection_text, replies_on, texts_from, replay_text}
 use Rattle.recorded_runner.proofs.AloneLaws.{tenants_alone}
 use Rattle.recorded_runner.proofs.AloneArrivals.{AreEndings}
 use Rattle.recorded_runner.proofs.AloneFates.{replies_alone}
@@ -40,10 +40,11 @@ abbrev due_from : (link : ℕ) → (owners : List ℕ) → (ℕ → List ℕ) �
 due_from link [] due = []
 due_from link (owner ∷ owners) due = due link ∷ due_from (suc link) owners due
 
-read_all : (link : ℕ) (owners : List ℕ) (due : ℕ → List ℕ) → ((n : ℕ) → length (due n) < 2 ^ 32) → replies_ahead (length owners) (texts_from link owners due) ≡ due_from link owners due
+read_all : (link : ℕ) (owners : List ℕ) (due : ℕ → List ℕ) → ((n : ℕ) → n < link + length owners → length (due n) < 2 ^ 32) → replies_ahead (length owners) (texts_from link owners due) ≡ due_from link owners due
 read_all link [] due few = refl
 read_all link (owner ∷ owners) due few =
-    read_one (length owners) link (due link) (texts_from (suc link) owners due) (few link) ∙ ap (λ (l : List (List ℕ)). due link ∷ l) (read_all (suc link) owners due few)
+    read_one (length owners) link (due link) (texts_from (suc link) owners due) (few link (omega arith))
+    ∙ ap (λ (l : List (List ℕ)). due link ∷ l) (read_all (suc link) owners due (λ n below. few n (omega (arith, below))))
 
 -- ---- the tenant's
 
@@ -68,7 +69,7 @@ one_those tenant link k o os due alone_due false e is few more =
     ∙ sym (ap (λ (b : Bool). if b then due link ∷ those_of tenant os (due_from (suc link) os due) else those_of tenant os (due_from (suc link) os due)) e)
 
 those_alone : (owners rest : List ℕ) (tenant link k : ℕ) (due alone_due : ℕ → List ℕ) → ((j : ℕ) → get_or rest j 0 ≡ get_or owners (link + j) 0) → link + length rest ≡ length owners → k ≡ among owners tenant link
-    → ((n : ℕ) → n < length owners → (get_or owners n 0 == tenant) ≡ true → alone_due (among owners tenant n) ≡ due n) → ((n : ℕ) → length (due n) < 2 ^ 32)
+    → ((n : ℕ) → n < length owners → (get_or owners n 0 == tenant) ≡ true → alone_due (among owners tenant n) ≡ due n) → ((n : ℕ) → n < length owners → length (due n) < 2 ^ 32)
     → replies_ahead (length (filter (of_tenant tenant) rest)) (texts_from k (filter (of_tenant tenant) rest) alone_due) ≡ those_of tenant rest (due_from link rest due)
 those_alone owners [] tenant link k due alone_due each many at is few = refl
 those_alone owners (o ∷ os) tenant link k due alone_due each many at is few =
@@ -78,20 +79,57 @@ those_alone owners (o ∷ os) tenant link k due alone_due each many at is few =
     let next : k + (if o == tenant then 1 else 0) ≡ among owners tenant (suc link) =
     ap₂ (λ (n owner : ℕ). n + (if owner == tenant then 1 else 0)) at (sym here) ∙ sym (among_next owners tenant link below) in
     one_those tenant link k o os due alone_due (o == tenant) refl
-    (λ owned. ap alone_due at ∙ is link below (ap (λ (n : ℕ). n == tenant) here ∙ owned)) (few link)
+    (λ owned. ap alone_due at ∙ is link below (ap (λ (n : ℕ). n == tenant) here ∙ owned)) (few link below)
     (those_alone owners os tenant (suc link) (k + (if o == tenant then 1 else 0)) due alone_due (λ j. each (suc j) ∙ ap (λ (n : ℕ). get_or owners n 0) (omega arith)) (omega (arith, many)) next is few)
 
 -- ---- the texts
 
 pub isolated : AreEndings → (c : Configuration) (programs : List Program) (records : List Record) (tenant : ℕ) → IsLegal records
-    → ((link : ℕ) → length (replies_on c.tenants programs link (decided c.tenants records)) < 2 ^ 32)
+    → ((link : ℕ) → link < length (tenants_of records) → length (replies_on c.tenants programs link (decided c.tenants records)) < 2 ^ 32)
     → replies_to tenant records (replay_text c programs records) ≡ replies_in (alone tenant records) (replay_text c programs (alone tenant records))
 unfolding replay_text
 isolated ends c programs records tenant legal few =
     let owners = tenants_of records in
     let due = λ (link : ℕ). replies_on c.tenants programs link (decided c.tenants records) in
     let alone_due = λ (link : ℕ). replies_on c.tenants programs link (decided c.tenants (alone tenant records)) in
-    ap (λ (l : List (List ℕ)). those_of tenant owners l) (read_all 0 owners due few)
+    ap (λ (l : List (List ℕ)). those_of tenant owners l) (read_all 0 owners due (λ n below. few n (omega (arith, below))))
     ∙ sym (those_alone owners owners tenant 0 0 due alone_due (λ j. ap (λ (n : ℕ). get_or owners n 0) (omega arith)) (omega arith) refl
     (λ n below owned. replies_alone ends c.tenants programs tenant n records legal below owned) few)
     ∙ sym (ap (λ (os : List ℕ). replies_ahead (length os) (texts_from 0 os alone_due)) (tenants_alone tenant records legal))
+
+-- ---- a text that is short has short parts
+
+part_few : (link : ℕ) (owners : List ℕ) (due : ℕ → List ℕ) (k : ℕ) → k < length owners → length (due (link + k)) ≤ length (texts_from link owners due)
+part_few link [] due k below = absurd (omega (arith, below))
+part_few link (owner ∷ owners) due zero below =
+    let first : link + 0 ≡ link = omega arith in
+    omega (arith, ap (λ (n : ℕ). length (due n)) first, length-append (connection_text link (due link)) (texts_from (suc link) owners due), front_few link (due link))
+  where
+    front_few : (link : ℕ) (replies : List ℕ) → length (connection_text link replies) ≡ 8 + length replies
+    front_few link replies = let counted : suc (suc (suc (suc (suc (suc (suc (suc (length replies)))))))) ≡ 8 + length replies = omega arith in counted
+part_few link (owner ∷ owners) due (suc k) below =
+    let next : link + suc k ≡ suc link + k = omega arith in
+    omega (
+      arith,
+      ap (λ (n : ℕ). length (due n)) next,
+      length-append (connection_text link (due link)) (texts_from (suc link) owners due),
+      part_few (suc link) owners due k (omega (arith, below)),
+    )
+
+texts_fit : (c : Configuration) (programs : List Program) (records : List Record) (link : ℕ) → link < length (tenants_of records)
+    → length (replies_on c.tenants programs link (decided c.tenants records)) ≤ length (replay_text c programs records)
+unfolding replay_text
+texts_fit c programs records link below =
+    let due = λ (n : ℕ). replies_on c.tenants programs n (decided c.tenants records) in
+    let first : 0 + link ≡ link = omega arith in
+    omega (
+      arith,
+      ap (λ (n : ℕ). length (due n)) first,
+      length-append answers_magic (texts_from 0 (tenants_of records) due),
+      part_few 0 (tenants_of records) due link below,
+    )
+
+pub isolated_whole : AreEndings → (c : Configuration) (programs : List Program) (records : List Record) (tenant : ℕ) → IsLegal records → length (replay_text c programs records) < 2 ^ 32
+    → replies_to tenant records (replay_text c programs records) ≡ replies_in (alone tenant records) (replay_text c programs (alone tenant records))
+isolated_whole ends c programs records tenant legal few =
+    isolated ends c programs records tenant legal (λ link below. omega (arith, few, texts_fit c programs records link below))

@@ -30,10 +30,11 @@ pub fn one_tenant_alone()
     ends_complete_refusals();
 }
 
-/// No tenant's replies depend on what the others ask. Each of its connections has the replies that it has in the recording without the connections of all others; and where no connection's replies are too long for the text to tell their length, the two texts say just that.
+/// No tenant's replies depend on what the others ask. Each of its connections has the replies that it has in the recording without the connections of all others; and where no connection's replies are too long for the text to tell their length, as in a text of fewer than 2^32 bytes, the two texts say just that.
 pub fn tenants_are_isolated()
     ensures each { (config : Configuration) (programs : List Program) (records : List Record) (tenant link : ℕ) → IsLegal records → link < length (tenants_of records) → is_of (tenants_of records) tenant link ≡ true → replies_on config.tenants programs (number_among (tenants_of records) tenant link) (decided config.tenants (alone tenant records)) ≡ replies_on config.tenants programs link (decided config.tenants records) }
-    ensures texts { (config : Configuration) (programs : List Program) (records : List Record) (tenant : ℕ) → IsLegal records → ((link : ℕ) → length (replies_on config.tenants programs link (decided config.tenants records)) < 2 ^ 32) → replies_to tenant records (replay_text config programs records) ≡ replies_in (alone tenant records) (replay_text config programs (alone tenant records)) }
+    ensures texts { (config : Configuration) (programs : List Program) (records : List Record) (tenant : ℕ) → IsLegal records → ((link : ℕ) → link < length (tenants_of records) → length (replies_on config.tenants programs link (decided config.tenants records)) < 2 ^ 32) → replies_to tenant records (replay_text config programs records) ≡ replies_in (alone tenant records) (replay_text config programs (alone tenant records)) }
+    ensures whole { (config : Configuration) (programs : List Program) (records : List Record) (tenant : ℕ) → IsLegal records → length (replay_text config programs records) < 2 ^ 32 → replies_to tenant records (replay_text config programs records) ≡ replies_in (alone tenant records) (replay_text config programs (alone tenant records)) }
 {
     ends_complete_refusals();
 }

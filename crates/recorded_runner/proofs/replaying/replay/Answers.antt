@@ -82,4 +82,4 @@ returns-clause-isolated g c = λ tenant.
     let rs = c.args.recording.now in
     let legal : IsLegal rs = subst (λ (these : List Record). IsLegal these) c.records.ensures.same c.records.ensures.legal in
     ap (λ (text : List ℕ). replies_to tenant rs text) (returns-clause-played g c).text_is
-    ∙ c.tenants_are_isolated.ensures.texts c.args.config.now (programs_in c.args.programs.now) rs tenant legal (returns-clause-short g c)
+    ∙ c.tenants_are_isolated.ensures.texts c.args.config.now (programs_in c.args.programs.now) rs tenant legal (λ link below. returns-clause-short g c link)

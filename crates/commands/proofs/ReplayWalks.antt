@@ -15,6 +15,9 @@ use Rattle.recording_format.specs.declared.records.Event.{Event}
 use Rattle.recording_format.specs.declared.records.Event.TheVariants.{Begins, Arrives, Closes}
 use Rattle.recording_format.specs.declared.records.Record.{Record}
 use Rattle.recorded_arrivals.specs.Limits.{IsTooMany, has_too_many}
+use Rattle.recording_format.specs.Following.{IsLegal}
+use Rattle.recorded_runner.specs.Alone.{alone}
+use Rattle.recorded_runner.specs.Readings.{replies_in, replies_to}
 use Rattle.recorded_runner.specs.ReplayText.{replay_text}
 use Rattle.recorded_runner.specs.Serving.{AreOwned, IsOwned, IsPlayed}
 use Rattle.recorded_runner.specs.declared.played.Played.{Played}
@@ -31,7 +34,7 @@ use Rattle.commands.specs.Endings.{Done, Due, Ended, due, recording_fault, statu
 use Rattle.commands.specs.Plans.{Comes, Ends, Goes, Plan, ReadsBytes, Step, Stops, found, go_on, over}
 use Rattle.commands.specs.Promises.{Yields}
 use Rattle.commands.specs.ReplayPlans.{check_recording, recording_end, recording_limit, recording_plan, replayed, summary_line, unless_too_many}
-use Rattle.commands.specs.Replays.{AnswersReplay, WritesReplay}
+use Rattle.commands.specs.Replays.{AnswersReplay, WritesApart, WritesReplay}
 use Rattle.commands.specs.declared.status.Status.{Status}
 use Rattle.commands.specs.declared.status.Status.TheVariants as status
 
@@ -120,3 +123,22 @@ pub writes_replay
 writes_replay None words r result lib lib' out out' notes notes' done asks yields took reads = tt
 writes_replay (Some files) words r result lib lib' out out' notes notes' done asks yields took reads =
     writes words files r out out' notes notes' asks (done_is_answered words files r asks (status_is _ result lib lib' out out' notes notes' yields done)) took reads
+
+-- and that each tenant's replies are those that it has alone
+
+-- a text of a legal recording's replay, where it is short
+abbrev pub AreIsolated : Type 0
+AreIsolated = (config : Configuration) (programs : List Program) (records : List Record) (tenant : ℕ) → IsLegal records → length (replay_text config programs records) < 2 ^ 32
+    → replies_to tenant records (replay_text config programs records) ≡ replies_in (alone tenant records) (replay_text config programs (alone tenant records))
+
+pub writes_apart : AreIsolated → (held : Option Files) (r : ReplayWords) (out out' notes notes' : SinkState) → IfSome held (λ files. WritesReplay r files out out' notes notes') → IfSome held (λ files. WritesApart r files out out')
+writes_apart isolated None r out out' notes notes' writes = tt
+writes_apart isolated (Some files) r out out' notes notes' w = record {
+  config = w.config;
+  programs = w.programs;
+  records = w.records;
+  files_are = w.files_are;
+  text = replay_text w.config w.programs w.records;
+  out_took = w.out_took;
+  apart = λ few tenant. isolated w.config w.programs w.records tenant w.spelt.legal few;
+}

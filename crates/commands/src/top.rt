@@ -9,12 +9,13 @@ ghost use Rattle.commands.specs.Delivery.{Leaves, Took};
 ghost use Rattle.commands.specs.Handing.{HandsOver};
 ghost use Rattle.commands.specs.Plans.{ReadsBytes, Walks};
 ghost use Rattle.commands.specs.Promises.{Refused, WriteRose, Yields};
-ghost use Rattle.commands.specs.Replays.{WritesReplay};
+ghost use Rattle.commands.specs.Replays.{WritesApart, WritesReplay};
 
 use crate::delivery::deliver;
 use crate::planning::plan;
 use crate::status::Status;
 use outside::{Gate, Library, Sink};
+use recorded_runner::laws::tenants_are_isolated;
 use std::alloc::Global;
 use std::thread::Threads;
 
@@ -92,9 +93,17 @@ pub fn run<R: Threads + Sync, L: Library, S: Sink, N: Sink, G: Gate>(
         → IfSome (L.state lib.old).held (λ files. WritesReplay r files
         (S.state out.old) (S.state out.new) (N.state notes.old) (N.state notes.new)) }
 
+    // And no tenant's replies in it depend on what the others ask: they are those that a replay of
+    // the recording without the connections of all others has.
+    ensures isolated { result ≡ Status.Ok → (r : ReplayWords)
+        → command_of (map string_bytes words.now) ≡ Some (AsksReplay r)
+        → IfSome (L.state lib.old).held (λ files. WritesApart r files
+        (S.state out.old) (S.state out.new)) }
+
     ensures same_files { (L.state lib.new).held ≡ (L.state lib.old).held }
     ensures later { (L.state lib.old).faults ≤ (L.state lib.new).faults }
 {
+    tenants_are_isolated();
     carry_out(rt, alloc, words, lib, out, notes, gate)
 }
 

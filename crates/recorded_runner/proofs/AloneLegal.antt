@@ -161,14 +161,15 @@ one_follows : (owners : List ℕ) (tenant : ℕ) (s t : Standing) (r : Record) (
     → ((u : Standing) → u.last ≤ r.moment → u.links ≡ those_of tenant owners (links_behind s.links r.link r.event) → Follow u (kept_of owners tenant rs))
     → Follow t (kept_of owners tenant (r ∷ rs))
 one_follows owners tenant s t r rs true e below few may late are more =
-    subst (λ (qs : List Record). Follow t qs) (sym (kept_here (λ q. is_of owners tenant q.link) (renumbered owners tenant) r rs e))
-    (record {
-      moment = omega (arith, late, may.moment);
-      link = subst (λ (ls : List Bool). LinkFollows ls (among owners tenant r.link) r.event) (sym are) (link_follows owners tenant r.link s.links r.event below few e may.link);
-      few = omega (arith, among_few owners tenant r.link, may.few);
-    },
-    more (behind t (renumbered owners tenant r)) (omega arith)
-    (ap (λ (ls : List Bool). links_behind ls (among owners tenant r.link) r.event) are ∙ sym (links_here owners tenant r.link s.links r.event below e may.link)))
+    subst (λ (qs : List Record). Follow t qs) (sym (kept_here (λ q. is_of owners tenant q.link) (renumbered owners tenant) r rs e)) (
+      record {
+        moment = omega (arith, late, may.moment);
+        link = subst (λ (ls : List Bool). LinkFollows ls (among owners tenant r.link) r.event) (sym are) (link_follows owners tenant r.link s.links r.event below few e may.link);
+        few = omega (arith, among_few owners tenant r.link, may.few);
+      },
+      more (behind t (renumbered owners tenant r)) (omega arith)
+          (ap (λ (ls : List Bool). links_behind ls (among owners tenant r.link) r.event) are ∙ sym (links_here owners tenant r.link s.links r.event below e may.link)),
+    )
 one_follows owners tenant s t r rs false e below few may late are more =
     subst (λ (qs : List Record). Follow t qs) (sym (kept_other (λ q. is_of owners tenant q.link) (renumbered owners tenant) r rs e))
     (more t (omega (arith, late, may.moment)) (are ∙ sym (links_other owners tenant r.link s.links r.event below e may.link)))

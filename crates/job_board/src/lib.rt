@@ -17,6 +17,3 @@ pub use boards::{Board, BoardPass};
 pub use moves::{Claim, Fill};
 pub use placed::Placed;
 pub use words::{Kind, State, Word};
-
-#[cfg(test)]
-mod tests;

@@ -4,8 +4,14 @@
 #![tactic(auto)]
 
 #[cfg(test)]
+mod boards;
+#[cfg(test)]
 mod cursors;
 #[cfg(test)]
 mod operations;
+#[cfg(test)]
+mod pools;
+#[cfg(test)]
+mod queues;
 #[cfg(test)]
 mod vessels;

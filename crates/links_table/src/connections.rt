@@ -291,10 +291,10 @@ pub(crate) fn say_all<R: Print + Threads + Net<Listener = TcpListener, Stream = 
     }
 }
 
-/// Two moments of the clock of the system, of which the second is not the earlier.
+/// Two moments of the clock of the system: the first is not 0, which it says where it can't be read, and the second is not the earlier.
 pub(crate) fn say_clock<R: Print + std::time::Clock + Copy + Send + Sync + 'static>(rt: &R) {
     let clock = SystemClock::new(*rt);
     let first = clock.now();
-    let later = mark_of(first <= clock.now());
+    let later = mark_of(0 < first && first <= clock.now());
     let _ = println!(rt; "clock goes on: {later}");
 }

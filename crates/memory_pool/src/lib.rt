@@ -15,6 +15,3 @@ pub use answers::Given;
 pub use berths::Berth;
 pub use movers::Found;
 pub use pools::{Pool, PoolPass};
-
-#[cfg(test)]
-mod tests;

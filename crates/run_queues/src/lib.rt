@@ -15,6 +15,3 @@ pub use common_queues::{Common, CommonPass};
 pub use entries::Entry;
 pub use local_queues::Local;
 pub use policies::Policy;
-
-#[cfg(test)]
-mod tests;

@@ -2,7 +2,7 @@
 ghost use Rattle.std.specs.Prelude.{◌≡◌, All};
 ghost use Rattle.run_queues.specs.Drawing.{Drawing};
 
-use crate::{Common, CommonPass, Entry, Local, Policy};
+use run_queues::{Common, CommonPass, Entry, Local, Policy};
 use std::alloc::{AllocError, Global};
 use std::sync::atomic::{AtomicU64, Ordering};
 use std::test::Fail;

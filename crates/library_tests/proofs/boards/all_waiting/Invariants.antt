@@ -1,7 +1,7 @@
 use Rattle.std.proofs.Common.{◌≡◌, ◌≤◌, length, vec_capacity}
 use Rattle.job_board.specs.Ends.{AreUnbegun}
-use Rattle.job_board.specs.declared.tests.jobs.Job.{Job}
-use Rattle.job_board.proofs.tests.all_waiting.Given as goal
+use Rattle.library_tests.specs.declared.boards.jobs.Job.{Job}
+use Rattle.library_tests.proofs.boards.all_waiting.Given as goal
 
 abbrev pub invariant-loop-place : goal.invariant-loop-place
 invariant-loop-place l =

@@ -4,7 +4,7 @@ ghost use Rattle.memory_pool.specs.Passing.{IsPassOf, IsTaken};
 ghost use Rattle.memory_pool.specs.Giving.{IsGiven};
 ghost use Rattle.wasm_store.specs.View.{empty};
 
-use crate::{Berth, Given, Pool, PoolPass};
+use memory_pool::{Berth, Given, Pool, PoolPass};
 use std::alloc::{AllocError, Global};
 use std::test::Fail;
 use std::thread::{Threads, join};

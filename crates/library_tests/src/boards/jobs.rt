@@ -1,7 +1,7 @@
 //! A job for tests, which answers the number of its request.
 ghost use Rattle.std.specs.Prelude.{◌≡◌, ◌+◌, ◌<◌};
 
-use crate::{Kind, Placed};
+use job_board::{Kind, Placed};
 
 #[derive(Drop)]
 pub struct Job {

@@ -1,6 +1,6 @@
 use Rattle.std.proofs.Common.{◌≡◌, None}
 use Rattle.job_board.specs.Boarding.{IsPassOf}
-use Rattle.job_board.proofs.tests.pass_round.Given as goal
+use Rattle.library_tests.proofs.boards.pass_round.Given as goal
 
 abbrev pub invariant-loop : goal.invariant-loop
 invariant-loop l = IsPassOf l.board l.pass × (l.pass.held ≡ None) × (l.pass.parts ≡ l.fn.pass.parts)

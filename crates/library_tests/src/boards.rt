@@ -3,12 +3,12 @@ ghost use Rattle.std.specs.Prelude.{◌≡◌, ◌+◌, ◌<◌, ◌≤◌, ◌�
 ghost use Rattle.job_board.specs.Words.{IsResting};
 ghost use Rattle.job_board.specs.Ends.{AreUnbegun};
 ghost use Rattle.job_board.specs.Boarding.{places_of, IsPassOf};
-ghost use Rattle.job_board.specs.declared.tests.jobs.Job.{Job};
+ghost use Rattle.library_tests.specs.declared.boards.jobs.Job.{Job};
 
 mod jobs;
 
 use self::jobs::{Job, turned, waiting};
-use crate::{Board, BoardPass, Claim, Fill, Kind, State, Word};
+use job_board::{Board, BoardPass, Claim, Fill, Kind, State, Word};
 use std::alloc::{AllocError, Global};
 use std::test::Fail;
 use std::thread::{Threads, join};

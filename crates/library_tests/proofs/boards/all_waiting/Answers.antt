@@ -1,8 +1,8 @@
 use Rattle.std.proofs.Common.{rules, sym, ◌∙◌, subst, arith, List, length, ap, length-append, ◌∷◌, []}
 use Rattle.job_board.proofs.Opening.{unbegun_push}
 use Rattle.job_board.specs.Ends.{AreUnbegun}
-use Rattle.job_board.specs.declared.tests.jobs.Job.{Job}
-use Rattle.job_board.proofs.tests.all_waiting.Goals as goal
+use Rattle.library_tests.specs.declared.boards.jobs.Job.{Job}
+use Rattle.library_tests.proofs.boards.all_waiting.Goals as goal
 
 pub loop-place-preserved : goal.loop-place-preserved
 loop-place-preserved c =

@@ -1,10 +1,10 @@
 -- What becomes of a tenant's items: the same where all others' connections are taken out.
-use Rattle.std.proofs.Common.{◌≡◌, ◌⊎◌, inl, inr, ℕ, suc, ◌<◌, Bool, true, false, ◌==◌, if◌then◌else◌, List, [], ◌∷◌, ◌++◌, length, map, filter, get_or, refl, sym, ap, ap₂, subst, ◌∙◌, arith, eq-eqb, eqb-true}
+use Rattle.std.proofs.Common.{◌≡◌, ◌⊎◌, inl, inr, ℕ, ◌<◌, Bool, true, false, ◌==◌, if◌then◌else◌, List, [], ◌∷◌, ◌++◌, length, filter, get_or, refl, sym, ap, ap₂, subst, ◌∙◌, arith, eq-eqb, eqb-true}
 use Rattle.std.specs.List.{flat_map, AllByRecursion}
 use Rattle.admission.specs.Bucket.{Bucket}
 use Rattle.admission.specs.Metering.{Question, behind_all}
 use Rattle.http_items.specs.Items.{Heard, Asked, Faulty, items}
-use Rattle.recorded_arrivals.specs.Arrivals.{Arrived, arrived_at, bytes_on, arrivals_behind, completed_at_end, arrivals}
+use Rattle.recorded_arrivals.specs.Arrivals.{Arrived, arrivals}
 use Rattle.recorded_arrivals.proofs.LimitLaws.{arrivals_below}
 use Rattle.recording_format.specs.declared.records.Record.{Record}
 use Rattle.recording_format.specs.Connections.{tenants_of}

@@ -1,10 +1,8 @@
 -- Which replies stand in a text, connection by connection, and which of them are a tenant's.
-use Rattle.std.specs.Prelude.{◌≡◌, ℕ, zero, suc, List, [], ◌∷◌, ◌++◌, length, take, drop, if◌then◌else◌, ◌==◌}
+use Rattle.std.specs.Prelude.{ℕ, zero, suc, List, [], ◌∷◌, length, take, drop, if◌then◌else◌, ◌==◌}
 use Rattle.std.specs.Int.{w32, from_le_bytes}
 use Rattle.recording_format.specs.declared.records.Record.{Record}
 use Rattle.recording_format.specs.Connections.{tenants_of}
-use Rattle.recorded_runner.specs.Joined.{joined_from}
-use Rattle.recorded_runner.specs.ReplayText.{answers_magic}
 
 -- so many connections ahead: each is a number and a length, of four bytes each, and then so many bytes
 abbrev pub replies_ahead : (connections : ℕ) → (ahead : List ℕ) → List (List ℕ)

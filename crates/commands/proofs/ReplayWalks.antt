@@ -25,12 +25,12 @@ use Rattle.recorded_runner.specs.declared.played.Summary.{Summary}
 use Rattle.commands.proofs.BytesRead.{ready_read, recording_spelt}
 use Rattle.commands.proofs.Checks.{recording_checked}
 use Rattle.commands.proofs.RecordingLaws.{recorded_is, refused_is}
-use Rattle.commands.proofs.ReplayLaws.{done_is_answered}
+use Rattle.commands.proofs.ReplayLaws.{done_is_answered, recorded}
 use Rattle.commands.proofs.Walking.{Giving, comes_end, comes_given}
 use Rattle.commands.specs.CommandLine.{Asked, AsksReplay, ReplayWords, command_of}
 use Rattle.commands.specs.Commands.{ending, plan_of}
 use Rattle.commands.specs.Delivery.{Took}
-use Rattle.commands.specs.Endings.{Done, Due, Ended, due, recording_fault, status_of}
+use Rattle.commands.specs.Endings.{Done, Due, Ended, due, recording_fault, status_of, text_of}
 use Rattle.commands.specs.Plans.{Comes, Ends, Goes, Plan, ReadsBytes, Step, Stops, found, go_on, over}
 use Rattle.commands.specs.Promises.{Yields}
 use Rattle.commands.specs.ReplayPlans.{check_recording, recording_end, recording_limit, recording_plan, replayed, summary_line, unless_too_many}
@@ -131,14 +131,20 @@ abbrev pub AreIsolated : Type 0
 AreIsolated = (config : Configuration) (programs : List Program) (records : List Record) (tenant : ℕ) → IsLegal records → length (replay_text config programs records) < 2 ^ 32
     → replies_to tenant records (replay_text config programs records) ≡ replies_in (alone tenant records) (replay_text config programs (alone tenant records))
 
-pub writes_apart : AreIsolated → (held : Option Files) (r : ReplayWords) (out out' notes notes' : SinkState) → IfSome held (λ files. WritesReplay r files out out' notes notes') → IfSome held (λ files. WritesApart r files out out')
-writes_apart isolated None r out out' notes notes' writes = tt
-writes_apart isolated (Some files) r out out' notes notes' w = record {
-  config = w.config;
-  programs = w.programs;
-  records = w.records;
-  files_are = w.files_are;
-  text = replay_text w.config w.programs w.records;
-  out_took = w.out_took;
-  apart = λ few tenant. isolated w.config w.programs w.records tenant w.spelt.legal few;
-}
+pub writes_apart : AreIsolated → (held : Option Files) (words : List (List ℕ)) (r : ReplayWords) (out out' notes notes' : SinkState) → command_of words ≡ Some (AsksReplay r)
+    → IfSome held (λ files. length (text_of (over files (plan_of (command_of words)))) < 2 ^ 32) → IfSome held (λ files. WritesReplay r files out out' notes notes') → IfSome held (λ files. WritesApart r files out out')
+writes_apart isolated None words r out out' notes notes' asks brief writes = tt
+writes_apart isolated (Some files) words r out out' notes notes' asks brief w =
+    let are = w.files_are in
+    let ends : ending words files ≡ unless_too_many false w.config w.programs w.records =
+    recorded words files r w.config w.programs are.recorded.file w.records false asks are.ready are.recorded.holds are.recorded.accepted are.few in
+    let few : length (replay_text w.config w.programs w.records) < 2 ^ 32 = omega (arith, brief, ap (λ (e : Ended). length (text_of e)) ends) in
+    record {
+      config = w.config;
+      programs = w.programs;
+      records = w.records;
+      files_are = are;
+      text = replay_text w.config w.programs w.records;
+      out_took = w.out_took;
+      apart = λ tenant. isolated w.config w.programs w.records tenant w.spelt.legal few;
+    }

@@ -1,5 +1,5 @@
 -- What a `replay` has written: the replay theorem, which `run` promises.
-use Rattle.std.specs.Prelude.{◌≡◌, ℕ, ◌<◌, ◌^◌, List, length, false, Some, Ok}
+use Rattle.std.specs.Prelude.{◌≡◌, ℕ, List, length, false, Some, Ok}
 use Rattle.std.specs.List.{AllByRecursion}
 use Rattle.outside.specs.Library.{Files}
 use Rattle.outside.specs.Sink.{Appends, SinkState}
@@ -64,11 +64,10 @@ pub record WritesReplay (words : ReplayWords) (files : Files) (out out' notes no
   pub notes_took : Appends notes notes' (summary_line (summary_of config programs records))
 
 -- Each tenant's replies in this text, read back connection by connection, are those that a replay of its connections alone writes: of the
--- recording without the connections of all others. A text of 2^32 bytes or more might have a connection whose length it cannot tell.
+-- recording without the connections of all others.
 abbrev pub AreApart : Configuration → List Program → List Record → (text : List ℕ) → Type 0
 AreApart config programs records text =
-    length text < 2 ^ 32
-    → (tenant : ℕ)
+    (tenant : ℕ)
     → replies_to tenant records text ≡ replies_in (alone tenant records) (replay_text config programs (alone tenant records))
 
 -- the output took a text in which each tenant's replies are those that it has alone

@@ -4,10 +4,10 @@ ghost use Rattle.std.specs.Prelude.{◌≡◌, ◌≢◌, ◌≤◌, ◌⊎◌, 
 ghost use Rattle.outside.specs.Faults.{Rose};
 ghost use Rattle.commands.specs.CommandLine.{AsksReplay, ReplayWords, command_of};
 ghost use Rattle.commands.specs.Commands.{ending, plan_for};
-ghost use Rattle.commands.specs.Endings.{Ended, out_of_memory, status_of};
+ghost use Rattle.commands.specs.Endings.{Due, Ended, IsBrief, out_of_memory, status_of};
 ghost use Rattle.commands.specs.Delivery.{Leaves, Took};
 ghost use Rattle.commands.specs.Handing.{HandsOver};
-ghost use Rattle.commands.specs.Plans.{ReadsBytes, Walks};
+ghost use Rattle.commands.specs.Plans.{Comes, ReadsBytes, Walks};
 ghost use Rattle.commands.specs.Promises.{Refused, WriteRose, Yields};
 ghost use Rattle.commands.specs.Replays.{WritesApart, WritesReplay};
 
@@ -123,6 +123,10 @@ fn carry_out<R: Threads + Sync, L: Library, S: Sink, N: Sink, G: Gate>(
         × Leaves e result
         (S.state out.old) (S.state out.new) (N.state notes.old) (N.state notes.new)
         × HandsOver S.took N.took e result out.old out.new notes.old notes.new }
+    ensures brief { result ≡ Status.Ok → (r : ReplayWords)
+        → command_of (map string_bytes words.now) ≡ Some (AsksReplay r)
+        → (planned : Due) × (planned.status ≡ Status.Ok) × IsBrief planned
+        × Comes L.gave (plan_for (map string_bytes words.now)) lib.old lib.new planned }
     ensures same_files { (L.state lib.new).held ≡ (L.state lib.old).held }
     ensures later { (L.state lib.old).faults ≤ (L.state lib.new).faults }
 {

@@ -1,6 +1,6 @@
 -- What is due on the output is brief: of a refusal nothing, and of a replay what was played.
 use Rattle.std.proofs.Common.{◌≡◌, ℕ, ◌^◌, ◌<◌, List, length, ap, arith}
-use Rattle.commands.specs.Endings.{Done, Due, Ended, IsBrief, Refuses, due}
+use Rattle.commands.specs.Endings.{Done, Due, IsBrief, Refuses, due}
 use Rattle.commands.specs.declared.status.Status.{Status}
 
 pub brief_refusal : (planned : Due) (s : Status) (words : List ℕ) → planned ≡ due (Refuses s words) → IsBrief planned

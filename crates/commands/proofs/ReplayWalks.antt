@@ -1,20 +1,19 @@
 -- The read of a recording, and its replay, are those of the plan.
-use Rattle.std.proofs.Common.{◌≡◌, ℕ, ◌^◌, ◌<◌, ◌≤◌, Bool, true, false, List, [], ◌∷◌, length, Option, None, Some, Result, Ok, Err, inl, inr, refl, sym, ap, subst, ◌∙◌, arith}
+use Rattle.std.proofs.Common.{◌≡◌, ℕ, ◌^◌, ◌<◌, Bool, false, List, [], ◌∷◌, length, Option, None, Some, Ok, Err, inl, inr, sym, ap, subst, ◌∙◌, arith}
 use Rattle.std.specs.List.{AllByRecursion}
 use Rattle.std.specs.Prelude.{IfSome}
-use Rattle.outside.specs.Library.{Fetched, Files, Gives, LibraryState}
+use Rattle.outside.specs.Library.{Files, Gives, LibraryState}
 use Rattle.outside.specs.Sink.{SinkState}
 use Rattle.wasm_meaning.specs.Programs.{Program}
 use Rattle.serve_config.specs.Configuration.{Configuration}
 use Rattle.recording_format.specs.Faults.{IsFor}
 use Rattle.recording_format.specs.Recorded.{EventFits, Fits, IsRefused, Recorded}
-use Rattle.recording_format.specs.Refusals.{number_of}
 use Rattle.recording_format.specs.declared.faults.RecordingFault.{RecordingFault}
 use Rattle.recording_format.specs.declared.faults.RecordingFault.TheVariants.{Refused as Numbered}
 use Rattle.recording_format.specs.declared.records.Event.{Event}
 use Rattle.recording_format.specs.declared.records.Event.TheVariants.{Begins, Arrives, Closes}
 use Rattle.recording_format.specs.declared.records.Record.{Record}
-use Rattle.recorded_arrivals.specs.Limits.{IsTooMany, has_too_many}
+use Rattle.recorded_arrivals.specs.Limits.{IsTooMany}
 use Rattle.recording_format.specs.Following.{IsLegal}
 use Rattle.recorded_runner.specs.Alone.{alone}
 use Rattle.recorded_runner.specs.Readings.{replies_in, replies_to}
@@ -31,7 +30,7 @@ use Rattle.commands.specs.CommandLine.{Asked, AsksReplay, ReplayWords, command_o
 use Rattle.commands.specs.Commands.{ending, plan_of}
 use Rattle.commands.specs.Delivery.{Took}
 use Rattle.commands.specs.Endings.{Done, Due, Ended, due, recording_fault, status_of, text_of}
-use Rattle.commands.specs.Plans.{Comes, Ends, Goes, Plan, ReadsBytes, Step, Stops, found, go_on, over}
+use Rattle.commands.specs.Plans.{Comes, Ends, Goes, ReadsBytes, Step, Stops, found, go_on, over}
 use Rattle.commands.specs.Promises.{Yields}
 use Rattle.commands.specs.ReplayPlans.{check_recording, recording_end, recording_limit, recording_plan, replayed, summary_line, unless_too_many}
 use Rattle.commands.specs.Replays.{AnswersReplay, WritesApart, WritesReplay}

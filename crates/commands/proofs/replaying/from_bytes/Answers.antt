@@ -1,5 +1,5 @@
 -- What the bytes are read as is what is done here.
-use Rattle.std.proofs.Common.{◌≡◌, ◌^◌, ◌<◌, List, [], ap, arith, length, sym, ◌∙◌}
+use Rattle.std.proofs.Common.{◌^◌, ◌<◌, List, [], ap, arith, length, sym, ◌∙◌}
 use Rattle.std.proofs.lemmas.Result.{IfOk-weaker}
 use Rattle.serve_config.specs.Loaded.{programs_in}
 use Rattle.serve_config.specs.declared.tenants.Tenant.{Tenant}

@@ -13,3 +13,4 @@ pub mod AloneArrivals
 pub mod AloneLegal
 pub mod AloneFates
 pub mod IsolationLaws
+pub mod AloneFiles

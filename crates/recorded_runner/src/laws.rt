@@ -4,6 +4,8 @@ ghost use Rattle.recorded_arrivals.specs.Arrivals.{arrivals};
 ghost use Rattle.recording_format.specs.declared.records.Record.{Record};
 ghost use Rattle.recording_format.specs.Connections.{tenants_of};
 ghost use Rattle.recording_format.specs.Following.{IsLegal};
+ghost use Rattle.recording_format.specs.Recorded.{Recorded};
+ghost use Rattle.recording_format.specs.Spelling.{spelling};
 ghost use Rattle.serve_config.specs.Configuration.{Configuration};
 ghost use Rattle.wasm_meaning.specs.Programs.{Program};
 ghost use Rattle.recorded_runner.specs.Alone.{alone, is_of, number_among, said_of};
@@ -20,11 +22,12 @@ pub fn replies_whoever_works()
     ensures summary { (one other : Configuration) (programs : List Program) (records : List Record) → one.tenants ≡ other.tenants → one.quantum ≡ other.quantum → summary_of one programs records ≡ summary_of other programs records }
 {}
 
-/// The recording of one tenant alone is a recording: its records may follow one another, its connections are the tenant's and no others, in their order, and of each it says just what the whole says, at the same moments. It has no more items than the whole.
+/// The recording of one tenant alone is a recording: its records may follow one another, its connections are the tenant's and no others, in their order, and of each it says just what the whole says, at the same moments. It has no more items than the whole, and where the whole is that of a file, its bytes are that of one too.
 pub fn one_tenant_alone()
     ensures legal { (tenant : ℕ) (records : List Record) → IsLegal records → IsLegal (alone tenant records) }
     ensures owners { (tenant : ℕ) (records : List Record) → IsLegal records → tenants_of (alone tenant records) ≡ filter (λ owner. owner == tenant) (tenants_of records) }
     ensures said { (tenant link : ℕ) (records : List Record) → IsLegal records → link < length (tenants_of records) → is_of (tenants_of records) tenant link ≡ true → said_of (number_among (tenants_of records) tenant link) (alone tenant records) ≡ said_of link records }
+    ensures recorded { (tenants tenant : ℕ) (bytes : List ℕ) (records : List Record) → Recorded tenants bytes records → Recorded tenants (spelling (alone tenant records)) (alone tenant records) }
     ensures fewer { (tenant : ℕ) (records : List Record) → IsLegal records → length (arrivals (alone tenant records)) ≤ length (arrivals records) }
 {
     ends_complete_refusals();

@@ -1,5 +1,5 @@
 -- Of files that are read and are bytes: those that are accepted are bytes to their end, so that a recording is spelt, and requests to programs have verdicts.
-use Rattle.std.proofs.Common.{◌≡◌, ℕ, suc, ◌+◌, ◌≤◌, List, [], ◌∷◌, length, take, Option, Some, IfSome, Ok, ap, subst, ◌∙◌, arith}
+use Rattle.std.proofs.Common.{◌≡◌, ℕ, suc, ◌+◌, ◌≤◌, List, [], ◌∷◌, length, take, Option, Some, IfSome, Ok, sym, ap, subst, ◌∙◌, arith}
 use Rattle.std.proofs.lemmas.List.{take_all}
 use Rattle.std.specs.List.{AllByRecursion}
 use Rattle.outside.specs.Library.{AreBytes, Files}
@@ -15,7 +15,7 @@ use Rattle.commands.proofs.Checks.{check_accepted, config_checked}
 use Rattle.commands.proofs.InvokeLaws.{has_verdict}
 use Rattle.commands.proofs.RecordingLaws.{accepted_fits, read_is}
 use Rattle.commands.specs.CheckPlans.{Onward, check_config, check_route, config_plan, module_name, modules_plan, routes_plan}
-use Rattle.commands.specs.Plans.{Plan, ReadsBytes, Step, found, go_on}
+use Rattle.commands.specs.Plans.{Goes, Plan, ReadsBytes, Step, found, go_on}
 use Rattle.commands.specs.Promises.{AreServed, HoldsConfig, IsServed}
 use Rattle.commands.specs.ReplayPlans.{recording_limit, recording_plan}
 use Rattle.commands.specs.Replays.{HasVerdicts, HoldsRecording}

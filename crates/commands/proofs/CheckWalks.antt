@@ -1,7 +1,7 @@
 -- The reads of `load_programs` are those of the plan of the modules.
-use Rattle.std.proofs.Common.{◌≡◌, inl, inr, ℕ, suc, ◌+◌, List, [], ◌∷◌, None, Some, Result, Ok, Err, refl, sym, ap, subst, ◌∙◌, arith}
+use Rattle.std.proofs.Common.{◌≡◌, ◌⊎◌, inl, inr, ℕ, zero, suc, ◌+◌, List, [], ◌∷◌, Option, None, Some, Result, Ok, Err, refl, sym, ap, subst, ◌∙◌, arith}
 use Rattle.std.specs.Prelude.{slice_get}
-use Rattle.outside.specs.Library.{Gives}
+use Rattle.outside.specs.Library.{Fails, Fetched, Gives}
 use Rattle.serve_config.specs.Configuration.{Configuration}
 use Rattle.serve_config.specs.Outcome.{IsDue}
 use Rattle.serve_config.specs.Reading.{configuration}
@@ -12,7 +12,7 @@ use Rattle.serve_config.specs.declared.faults.ConfigFault.TheVariants.{Refused a
 use Rattle.wasm_reader.specs.Modules.{most_bytes}
 use Rattle.wasm_meaning.specs.Programs.{Program}
 use Rattle.module_files.specs.FilePrograms.{Unfit, program_of}
-use Rattle.serve_config.specs.Loading.{Unloaded, NotRead, IsUnfit, Loads, LoadsAll, fit}
+use Rattle.serve_config.specs.Loading.{Unloaded, NotRead, IsUnfit, Loads, LoadsAll, Follows, fit, from_answer, with_first}
 use Rattle.recorded_runner.specs.Serving.{AreProgramsOf}
 use Rattle.module_files.proofs.Programs.{made_pages}
 use Rattle.serve_config.specs.declared.tenants.Route.{Route}
@@ -25,7 +25,7 @@ use Rattle.commands.specs.Readying.{Readies}
 use Rattle.commands.specs.declared.checking.Configured.{Configured}
 use Rattle.commands.specs.declared.checking.Unready.{Unready}
 use Rattle.commands.specs.declared.checking.Unready.TheVariants.{Refused, NoMemory}
-use Rattle.commands.specs.Plans.{Comes, Goes, Leads, Plan, Reads, Step, Stops, Walks, found, go_on}
+use Rattle.commands.specs.Plans.{Comes, Ends, Goes, Leads, Plan, Reads, Step, Stops, Walks, found, go_on}
 
 -- What is made of one file is what its check makes of it.
 

@@ -39,7 +39,7 @@ use Rattle.recording_format.specs.declared.refusals.Refusal.{Refusal as Recordin
 use Rattle.recording_format.specs.declared.refusals.Refusal.TheVariants.{BadMagic, TooLarge}
 use Rattle.recorded_arrivals.specs.Limits.{has_too_many}
 use Rattle.commands.specs.Recordings.{recording_of, records_ahead}
-use Rattle.commands.specs.ReplayPlans.{check_recording, recording_limit, recording_plan, recording_step, unless_too_many}
+use Rattle.commands.specs.ReplayPlans.{check_recording, recording_limit, recording_plan, recording_step, replayed, unless_too_many}
 use Rattle.commands.specs.SoakPlans.{soak_end, soak_loaded, soak_plan, summed_unless}
 use Rattle.generated_load.specs.Configuration.{soak_configuration}
 use Rattle.generated_load.specs.Recording.{soak_records}

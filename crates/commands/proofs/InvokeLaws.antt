@@ -1,15 +1,18 @@
 -- How an `invoke` ends, by what its files spell.
-use Rattle.std.proofs.Common.{◌≡◌, ◌≢◌, ℕ, ◌<◌, ◌≤◌, Bool, true, false, if◌then◌else◌, nat_lt, List, length, Option, None, Some, refl, sym, ap, subst, ◌∙◌}
+use Rattle.std.proofs.Common.{◌≡◌, ◌≢◌, ℕ, ◌<◌, ◌≤◌, Bool, true, false, if◌then◌else◌, nat_lt, List, length, Option, None, Some, Result, Ok, Err, inl, inr, refl, sym, ap, subst, ◌∙◌}
 use Rattle.outside.specs.Library.{Files}
 use Rattle.wasm_ops.specs.Bytes.{AreBytes}
 use Rattle.wasm_ops.specs.declared.faults.Fault.{Fault}
+use Rattle.wasm_ops.specs.declared.modules.Module.{Module}
 use Rattle.wasm_reader.proofs.FormedModules.{module_formed}
 use Rattle.wasm_reader.specs.Modules.{RefusesModule}
 use Rattle.wasm_instance.proofs.Outcomes.{linked_is}
 use Rattle.wasm_meaning.proofs.SafePrograms.{verdict_is}
 use Rattle.wasm_meaning.specs.LinkRules.{link_number}
-use Rattle.wasm_meaning.specs.Programs.{Program, IsProgram}
+use Rattle.wasm_meaning.specs.Programs.{Program, IsProgram, link}
 use Rattle.wasm_meaning.specs.Requests.{Request, Verdict, verdict}
+use Rattle.wasm_meaning.specs.Validity.{module_walk}
+use Rattle.wasm_meaning.specs.ValidityChecks.{Check}
 use Rattle.wasm_meaning.specs.declared.links.Unlinked.{Unlinked}
 use Rattle.wasm_meaning.specs.declared.violations.Broken.{Broken}
 use Rattle.commands.proofs.Checks.{IsNone, IsProgramOf, Judged, check_accepted, check_invalid, check_long, check_refused, check_short, check_unlinked, fits_limit, judged}

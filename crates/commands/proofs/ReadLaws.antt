@@ -1,5 +1,5 @@
 -- How a command comes to a read fault.
-use Rattle.std.proofs.Common.{◌≡◌, ℕ, List, Option, None, Some, ap}
+use Rattle.std.proofs.Common.{◌≡◌, ℕ, List, Option, None, Some, sym, ap, ◌∙◌}
 use Rattle.outside.specs.Library.{Files, LibraryState}
 use Rattle.commands.proofs.Checks.{plan_steady}
 use Rattle.commands.proofs.Walking.{Giving, Lawful, walk_unread}
@@ -7,6 +7,7 @@ use Rattle.commands.specs.CommandLine.{Asked, command_of}
 use Rattle.commands.specs.Commands.{plan_for, plan_of}
 use Rattle.commands.specs.Endings.{Ended, status_of}
 use Rattle.commands.specs.Plans.{IsUnread, Walks}
+use Rattle.commands.specs.declared.status.Status.{Status}
 use Rattle.commands.specs.declared.status.Status.TheVariants as status
 
 of_asked : {L : Type 0} (state : L → LibraryState) (gave : Giving L) → Lawful state gave → (asked : Option Asked) (files : Files) (old new : L) (e : Ended)

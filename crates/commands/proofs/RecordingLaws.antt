@@ -1,13 +1,13 @@
 -- The recording that bytes are, as a function, is the one that they spell, or the refusal that they have.
-use Rattle.std.proofs.Common.{◌≡◌, ◌≢◌, inl, inr, ℕ, zero, suc, ◌^◌, ◌<◌, ◌≤◌, ◌==◌, Bool, true, false, if◌then◌else◌, nat_lt, List, [], ◌∷◌, ◌++◌, length, take, drop, Option, None, Some, Result, Ok, Err, refl, sym, ap, subst, ◌∙◌, arith, append_assoc, length-append}
+use Rattle.std.proofs.Common.{◌≡◌, ◌≢◌, ◌⊎◌, inl, inr, ℕ, zero, suc, ◌+◌, ◌^◌, ◌<◌, ◌≤◌, ◌==◌, Bool, true, false, cond, if◌then◌else◌, nat_lt, List, [], ◌∷◌, ◌++◌, length, take, drop, Option, None, Some, Result, Ok, Err, refl, sym, ap, subst, ◌∙◌, arith, append_assoc, length-append}
 use Rattle.std.specs.Cmp.Lexicographic.{same_text}
 use Rattle.std.specs.List.{AllByRecursion, flat_map}
 use Rattle.std.specs.Str.{bytes_eq}
-use Rattle.std.proofs.lemmas.List.{take-append-drop}
+use Rattle.std.proofs.lemmas.List.{length-drop, take-append-drop}
 use Rattle.std.proofs.lemmas.List.Concat.{flat_map-cons}
 use Rattle.recording_format.proofs.AheadLaws.{Next, bytes_behind, end_stands, next, no_end}
 use Rattle.recording_format.proofs.SpeltLaws.{Again, again}
-use Rattle.recording_format.specs.Following.{Follow}
+use Rattle.recording_format.specs.Following.{Follow, MayFollow}
 use Rattle.recording_format.specs.Looks.{kind_ahead, record_ahead, refusal_ahead, size_ahead}
 use Rattle.recording_format.specs.Recorded.{AreBytes, Fits, IsRefused, IsRefusedBehind, Recorded, most_bytes}
 use Rattle.recording_format.specs.Spelling.{magic, record_spelling}

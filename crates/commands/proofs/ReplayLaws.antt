@@ -1,19 +1,20 @@
 -- How a `replay` ends, by what its files are and spell.
-use Rattle.std.proofs.Common.{◌≡◌, ◌≢◌, ℕ, Bool, true, false, List, length, Option, None, Some, Result, Ok, Err, refl, sym, ap, ◌∙◌}
+use Rattle.std.proofs.Common.{◌≡◌, ◌≢◌, ℕ, ◌^◌, ◌<◌, Bool, true, false, List, length, Option, None, Some, Result, Ok, Err, refl, sym, ap, ◌∙◌}
 use Rattle.outside.specs.Library.{Files}
 use Rattle.wasm_meaning.specs.Programs.{Program}
 use Rattle.serve_config.specs.Configuration.{Configuration}
+use Rattle.serve_config.specs.Routing.{all_routes}
 use Rattle.recording_format.specs.Refusals.{number_of}
 use Rattle.recording_format.specs.declared.records.Record.{Record}
 use Rattle.recording_format.specs.declared.refusals.Refusal.{Refusal}
 use Rattle.recorded_arrivals.specs.Limits.{has_too_many, too_many_requests}
 use Rattle.commands.proofs.CheckLaws.{IsOver, IsReady, Prepared, prepared, ready_ends}
 use Rattle.commands.proofs.Checks.{recording_checked}
-use Rattle.commands.specs.CheckPlans.{check_plan, counted}
+use Rattle.commands.specs.CheckPlans.{check_plan, config_plan, counted}
 use Rattle.commands.specs.CommandLine.{Asked, AsksReplay, ReplayWords, command_of}
 use Rattle.commands.specs.Commands.{ending, plan_of}
 use Rattle.commands.specs.Endings.{Ended, not_read, recording_fault, status_of}
-use Rattle.commands.specs.Plans.{Ends, Step, found, go_on, over}
+use Rattle.commands.specs.Plans.{Ends, Plan, Step, found, go_on, over}
 use Rattle.commands.specs.Recordings.{recording_of}
 use Rattle.commands.specs.ReplayPlans.{check_recording, recording_plan, recording_step, replay_plan, replayed, unless_too_many}
 use Rattle.commands.specs.Replays.{AnswersReplay, Ready}

@@ -3,7 +3,7 @@ use Rattle.std.proofs.Common.{◌≡◌, ℕ, ◌-◌, ◌≤◌, Bool, true, fa
 use Rattle.std.specs.Str.{bytes_eq}
 use Rattle.std.specs.Str.Parse.{digits_value}
 use Rattle.std.proofs.lemmas.Bool.Decides.{nat_tests}
-use Rattle.commands.specs.CommandLine.{AsksSoak, AsksReplay, AsksInvoke, AsksCheck, AsksHelp, AsksVersion, SoakWords, is_decimal, within, number_within, soak_asked, soak_words, command_of}
+use Rattle.commands.specs.CommandLine.{Asked, AsksSoak, AsksReplay, AsksInvoke, AsksCheck, AsksHelp, AsksVersion, SoakWords, is_decimal, within, number_within, soak_asked, soak_words, command_of}
 
 not_above : (most n : ℕ) → nat_lt most n ≡ false → n ≤ most
 not_above most n e = grind (arith, nat_tests)

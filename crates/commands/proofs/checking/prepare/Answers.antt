@@ -1,5 +1,5 @@
 -- The read of the configuration, and what it came to.
-use Rattle.std.proofs.Common.{None, List, ℕ, rules, subst}
+use Rattle.std.proofs.Common.{None, List, ℕ, rules, subst, sym}
 use Rattle.commands.proofs.CheckWalks.{read_readies}
 use Rattle.commands.proofs.Walking.{comes_end, comes_failed, comes_given}
 use Rattle.commands.specs.CheckPlans.{check_config, routes_plan}

@@ -1,5 +1,5 @@
 -- What the check of the bytes comes to is what is done here.
-use Rattle.std.proofs.Common.{Err, sym, subst}
+use Rattle.std.proofs.Common.{◌≡◌, ℕ, Ok, Err, rules, ap, sym, subst}
 use Rattle.std.proofs.lemmas.Result.{IfOk-weaker}
 use Rattle.module_files.specs.Made.{IsMade}
 use Rattle.module_files.specs.FilePrograms.{program_of}

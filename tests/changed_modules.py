@@ -1,7 +1,7 @@
 #!/usr/bin/env python3
 """Runs the built program on modules at their limits, on each cut of two modules, and on thousands of changed modules.
 
-    modules.py [COUNT [SEED]]       builds the program where it is not built, by the script `sledge` at the top
+    changed_modules.py [COUNT [SEED]]       builds the program where it is not built, by the script `sledge` at the top
 
 What is wanted of the first two stands in the tables here, after docs/FORMATS.md. What the program says of a changed module
 is compared with a reader that is written from the format alone.
@@ -17,7 +17,7 @@ import random
 import sys
 import tempfile
 
-from lib import interpreter, module_reader, module_validator
+from lib import interpreter, module_reader, module_validator, usage
 from lib.running import build, lay, run
 from lib.whole_modules import ECHO, NOTHING
 
@@ -192,9 +192,10 @@ def agrees(status, note, data, refusal):
     return (status, note) == (5, f"module {refusal[0]} 0 {refusal[1]}\n")
 
 
-def main():
-    count = int(sys.argv[1]) if len(sys.argv) > 1 else 3_000
-    rng = random.Random(int(sys.argv[2]) if len(sys.argv) > 2 else 1)
+def main(words):
+    usage.counts(words, __doc__)
+    count, seed = [int(word) for word in words + ["3000", "1"][len(words) :]]
+    rng = random.Random(seed)
     build()
     seen = collections.Counter()
     failed = 0
@@ -219,4 +220,5 @@ def main():
     return failed != 0
 
 
-sys.exit(main())
+if __name__ == "__main__":
+    sys.exit(main(sys.argv[1:]))

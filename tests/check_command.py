@@ -1,7 +1,7 @@
 #!/usr/bin/env python3
 """Runs `check` of the built program on real files and compares exit status, standard output and standard error.
 
-    check.py             builds the program where it is not built, by the script `sledge` at the top
+    check_command.py     builds the program where it is not built, by the script `sledge` at the top
 
 Each expected text is written out here from the formats of docs/FORMATS.md. What a configuration is refused for, key
 by key, `tests/config_table.py` compares.
@@ -12,6 +12,7 @@ import json
 import sys
 import tempfile
 
+from lib import usage
 from lib.running import TOP, build, differs, lay, run
 from lib.whole_modules import ECHO, NOTHING
 
@@ -156,7 +157,8 @@ WORDS = [
 EXAMPLE = (["check", "examples/config/server.json"], counts(1, 2))
 
 
-def main():
+def main(words):
+    usage.none(words, __doc__)
     build()
     failed = 0
     for name, contents, wanted in CASES:
@@ -165,8 +167,8 @@ def main():
             failed += differs(name, wanted, run(["check", "c"], folder))
     with tempfile.TemporaryDirectory() as folder:
         lay(folder, WHOLE)
-        for words, wanted in WORDS:
-            failed += differs(words, wanted, run(words, folder))
+        for given, wanted in WORDS:
+            failed += differs(given, wanted, run(given, folder))
         with open("/dev/full", "wb") as full:
             failed += differs("an output that is full", (7, None, b""), run(["check", "c"], folder, stdout=full))
     failed += differs("the example", EXAMPLE[1], run(EXAMPLE[0], TOP))
@@ -175,4 +177,5 @@ def main():
     return failed != 0
 
 
-sys.exit(main())
+if __name__ == "__main__":
+    sys.exit(main(sys.argv[1:]))

@@ -17,10 +17,12 @@ import os
 import re
 import sys
 
+from lib import usage
+
 TOP = os.path.normpath(os.path.join(os.path.dirname(os.path.abspath(__file__)), ".."))
 MOST_LINES, MOST_PARAGRAPH, MOST_CELL = 150, 700, 200
 
-FOLDERS = ("bench", "crates", "docs", "examples", "tests")
+FOLDERS = ("bench", "crates", "docs", "examples", "tests", "tools")
 ENDINGS = r"\.(antt|c|edit|h|json|md|py|rt|sh|svg|txt|wasm)$"
 # Words that stand for any name in a path.
 ANY = r"\b(NAME|CRATE|FILE|FOLDER)(?![a-zA-Z0-9])"
@@ -201,7 +203,8 @@ def wrong_front_page():
             yield "README.md:%d: a paragraph or a cell of %d letters" % (number, most)
 
 
-def main():
+def main(words):
+    usage.none(words, __doc__)
     looks = (missing_paths, missing_targets, unknown_names, wrong_promises, wrong_crates, wrong_front_page)
     wrong = [line for look in looks for line in look()]
     print("\n".join(wrong + ["%d names that do not fit" % len(wrong) if wrong else "%d documents" % len(DOCUMENTS)]))
@@ -209,4 +212,4 @@ def main():
 
 
 if __name__ == "__main__":
-    sys.exit(main())
+    sys.exit(main(sys.argv[1:]))

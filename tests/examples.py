@@ -4,9 +4,9 @@
     examples.py            runs each example as docs/FUNCTIONS.md shows it, and then on further bodies
     examples.py write      writes the files `reply`, `units` and `status` of each example, without running the program
 
-What a function must answer to a body is computed here from what it is for, apart from its C source; the units are
+What a function must answer to a body is computed here from what it is for, apart from its source; the units are
 counted by the interpreter in Python, which was written apart from the program. The files beside an example have to agree
-with both. Neither a C compiler nor a tool for WebAssembly is needed.
+with both. Neither a compiler nor a tool for WebAssembly is needed.
 """
 
 import hashlib
@@ -16,7 +16,7 @@ import random
 import subprocess
 import sys
 
-from lib import interpreter, module_validator
+from lib import interpreter, module_validator, usage
 from lib.running import SCRIPT, TOP, Case, compare
 
 # ---- what the functions are for
@@ -109,11 +109,42 @@ def mean(body):
     return ("reply", bytes([sum(body) // len(body)])) if body else ("trap", "unreachable")
 
 
+def counted(body):
+    return "reply", b"%d lines, %d words, %d bytes\n" % (body.count(b"\n"), len(body.split()), len(body))
+
+
+def mean_to_two_places(body):
+    if not body:
+        return "exit", 2
+    hundredths = (200 * sum(body) + len(body)) // (2 * len(body))
+    return "reply", b"%d.%02d\n" % divmod(hundredths, 100)
+
+
+def raised_letters(body):
+    return "reply", body.upper()
+
+
+# The characters of Unicode that have the property White_Space.
+BLANKS = {*range(9, 14), 0x20, 0x85, 0xA0, 0x1680, *range(0x2000, 0x200B), 0x2028, 0x2029, 0x202F, 0x205F, 0x3000}
+
+
+def tallied(body):
+    try:
+        text = body.decode("utf-8")
+    except UnicodeDecodeError:
+        return "exit", 2
+    letters = [letter for letter in text if ord(letter) not in BLANKS]
+    return "reply", "".join("%s %d\n" % (letter, letters.count(letter)) for letter in sorted(set(letters))).encode()
+
+
 def never(_):
     return ("spent",)
 
 
-PURPOSES = {"echo": echoed, "lines": numbered, "sha256": hashed, "csv": summed, "json": picked, "life": lived, "matrix": raised, "trap": mean, "endless": never}
+PURPOSES = {
+    "echo": echoed, "lines": numbered, "sha256": hashed, "csv": summed, "json": picked, "life": lived, "matrix": raised, "words": counted,
+    "mean": mean_to_two_places, "upper": raised_letters, "letters": tallied, "trap": mean, "endless": never,
+}  # fmt: skip
 
 # ---- further bodies
 
@@ -161,6 +192,15 @@ def further(rng):
         yield "lines", words(rng, b"ab \t\r\n", count)
     for length in (0, 55, 56, 63, 64, 65, 119, 120, 500):
         yield "sha256", words(rng, range(256), length)
+    for length in (0, 1, 1023, 1024, 1025, 5000):
+        yield "upper", words(rng, range(256), length)
+        yield "words", words(rng, b"ab \t\n\v\f\r\0\xff", length)
+    for length in (0, 1, 2, 3, 7, 200, 5000):
+        yield "mean", words(rng, range(256), length)
+    yield from (("mean", body) for body in (b"\0", b"\xff" * 300, b"\0\0\1", b"\0" * 199 + b"\1"))
+    for text in ("", "\u00df\u1e9e \u00df", "\u3000\u200b\u2003\x1c\x85", "\U0001f600" * 3, "".join(chr(rng.randrange(32, 0x3000)) for _ in range(300))):
+        yield "letters", text.encode()
+    yield from (("letters", body) for body in (b"\xff", b"a\xc3", b"\xed\xa0\x80"))
     made = {"csv": tables(rng), "json": documents(rng), "life": boards(rng), "matrix": matrices(rng)}
     yield from ((name, body) for name, bodies in made.items() for body in bodies)
     yield from (("trap", body) for body in (b"", b"\0", b"\xff\xff\0"))
@@ -213,10 +253,11 @@ def ran_as_shown(name):
 
 
 def main(arguments):
+    usage.only([[], [lambda word: word == "write"]], arguments, __doc__)
     if arguments == ["write"]:
         write()
         return False
-    folders = sorted(name for name in os.listdir(os.path.join(TOP, "examples")) if os.path.exists(os.path.join(TOP, "examples", name, name + ".c")))
+    folders = sorted(name for name in os.listdir(os.path.join(TOP, "examples")) if os.path.exists(os.path.join(TOP, "examples", name, name + ".wasm")))
     assert folders == sorted(PURPOSES), folders
     agree = [ran_as_shown(name) for name in PURPOSES]
     failed = compare([Asked(*item) for item in further(random.Random(25))])

@@ -10,6 +10,7 @@ What must come of it is computed by the interpreter in Python.
 import random
 import sys
 
+from lib import usage
 from lib.host_programs import EXIT, READ, WRITE, call, const, expects, filled, laid, program, shown, through, told
 from lib.interpreter import PAGE
 from lib.module_writer import body, number, signed, text
@@ -119,6 +120,7 @@ def at_random(rng):
 
 
 def main(words):
+    usage.counts(words, __doc__)
     count, seed = [int(word) for word in words + ["300", "3"][len(words) :]]
     rng = random.Random(seed)
     cases = list(by_hand()) + list(budgets())

@@ -1,7 +1,7 @@
 #!/usr/bin/env python3
 """Runs the built program on real files and compares exit status, standard output and standard error.
 
-    invoke.py            builds the program where it is not built, by the script `sledge` at the top
+    invoke_command.py    builds the program where it is not built, by the script `sledge` at the top
 
 Each expected text is written out here from the formats of docs/FORMATS.md.
 """
@@ -9,6 +9,7 @@ Each expected text is written out here from the formats of docs/FORMATS.md.
 import sys
 import tempfile
 
+from lib import usage
 from lib.running import build, differs, lay, run
 from lib.whole_modules import ECHO, ENDLESS, MOST_FRAMES, NOTHING, ONE_FUNCTION, PAGE_FILLER, START, TAKES_NOTHING, TOO_MANY_FRAMES, ZERO_READER, text
 
@@ -226,15 +227,16 @@ def help_is_whole(shown):
     )
 
 
-def main():
+def main(words):
+    usage.none(words, __doc__)
     build()
     with tempfile.TemporaryDirectory() as folder:
         lay(folder, FILES)
         results = []
-        for words, own, wanted in cases():
+        for given, own, wanted in cases():
             if own is not None:
                 lay(folder, {"m": own})
-            results.append(differs(f"{words} {own.hex(' ') if own else ''}", wanted, run(words, folder)))
+            results.append(differs(f"{given} {own.hex(' ') if own else ''}", wanted, run(given, folder)))
         status, shown, notes = run(["--help"], folder)
         results.append(differs("--help", (0, True, b""), (status, help_is_whole(shown), notes)))
         with open("/dev/full", "wb") as full:
@@ -243,4 +245,5 @@ def main():
     return any(results)
 
 
-sys.exit(main())
+if __name__ == "__main__":
+    sys.exit(main(sys.argv[1:]))

@@ -10,7 +10,7 @@ is linked is run.
 import sys
 import tempfile
 
-from lib import interpreter, module_reader, module_validator
+from lib import interpreter, module_reader, module_validator, usage
 from lib.module_writer import module, number, text
 from lib.running import Case, build, ran
 
@@ -189,7 +189,8 @@ def agrees(got, refusal):
     return (status, shown, note) == (5, b"", "module %d 0 %d\n" % refusal)
 
 
-def main():
+def main(words):
+    usage.none(words, __doc__)
     build()
     failed = 0
     with tempfile.TemporaryDirectory() as folder:
@@ -204,4 +205,5 @@ def main():
     return failed != 0
 
 
-sys.exit(main())
+if __name__ == "__main__":
+    sys.exit(main(sys.argv[1:]))

@@ -15,6 +15,8 @@ import subprocess
 import sys
 import tempfile
 
+from lib import usage
+
 TOP = os.path.join(os.path.dirname(os.path.abspath(__file__)), "..")
 SINGLE = {
     "memory_pool": ["Berth"],
@@ -65,7 +67,8 @@ def tried(folder, known):
     return done.stdout.decode()
 
 
-def main():
+def main(words):
+    usage.none(words, __doc__)
     known = libraries()
     with tempfile.TemporaryDirectory() as folder:
         said = tried(folder, known)
@@ -79,4 +82,5 @@ def main():
     return 0
 
 
-sys.exit(main())
+if __name__ == "__main__":
+    sys.exit(main(sys.argv[1:]))

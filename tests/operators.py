@@ -7,7 +7,7 @@ Each module reaches `unreachable` where an operator does not give what was compu
 
 import sys
 
-from lib import integers
+from lib import integers, usage
 from lib.interpreter import PAGE
 from lib.module_writer import body, module, number, signed, text
 from lib.running import Case, compare
@@ -207,9 +207,10 @@ def budget_cases():
         yield Case("an endless loop", program("03 40 0C 00 0B"), budget=budget)
 
 
-def main():
+def main(words):
+    usage.none(words, __doc__)
     return compare([case for cases in (integer_cases, memory_cases, growth_cases, control_cases, budget_cases) for case in cases()]) != 0
 
 
 if __name__ == "__main__":
-    sys.exit(main())
+    sys.exit(main(sys.argv[1:]))

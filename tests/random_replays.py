@@ -20,6 +20,7 @@ import sys
 import tempfile
 from concurrent.futures import ThreadPoolExecutor
 
+from lib import usage
 from lib.replays import MODULES, MOST_ITEMS, Connection, Item, Route, Tenant, configuration, due, request, spelt
 from lib.running import build, differs, lay, run
 
@@ -198,6 +199,7 @@ def limit_cases():
 
 
 def main(words):
+    usage.counts(words, __doc__)
     count, seed = [int(word) for word in words + ["300", "11"][len(words) :]]
     chance = random.Random(seed)
     cases = [made_case(chance, "recording %d of seed %d" % (place, seed)) for place in range(count)]

@@ -1,7 +1,7 @@
 #!/usr/bin/env python3
 """Replays recordings by the built program, and compares exit status, standard output and standard error.
 
-    replay.py            builds the program where it is not built, by the script `sledge` at the top
+    replay_command.py    builds the program where it is not built, by the script `sledge` at the top
 
 Each expected text is written out here from the formats of docs/FORMATS.md.
 """
@@ -12,7 +12,7 @@ import os
 import sys
 import tempfile
 
-from lib import recordings
+from lib import recordings, usage
 from lib.replays import MODULES, Connection, Item, Route, Tenant, due, request
 from lib.running import TOP, build, differs, lay, run
 
@@ -223,7 +223,8 @@ def with_the_example():
     yield "examples/replay/answers", example()[1], stored
 
 
-def main():
+def main(words):
+    usage.none(words, __doc__)
     build()
     with tempfile.TemporaryDirectory() as folder:
         lay(folder, MODULES)
@@ -236,4 +237,4 @@ def main():
 
 
 if __name__ == "__main__":
-    sys.exit(main())
+    sys.exit(main(sys.argv[1:]))

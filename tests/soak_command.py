@@ -1,19 +1,20 @@
 #!/usr/bin/env python3
 """Runs `soak` of the built program, and compares what it says with a generator that is written from docs/FORMATS.md alone.
 
-    soak.py                          builds the program where it is not built, by the script `sledge` at the top
-    soak.py write FOLDER START COUNT writes the configuration, its modules and the recording into the folder, for `replay`
+    soak_command.py                          builds the program where it is not built, by the script `sledge` at the top
+    soak_command.py write FOLDER START COUNT writes the configuration, its modules and the recording into the folder, for `replay`
 
 The generator makes the recording, asks the meter, and has each admitted request run by the interpreter in Python. `replay` of the
 same recording, with the configuration and the modules as files, must say the same, and write the replies that the interpreter gives.
 """
 
 import functools
+import os
 import struct
 import sys
 import tempfile
 
-from lib import interpreter, module_validator, recordings
+from lib import interpreter, module_validator, recordings, usage
 from lib.running import build, differs, lay, run
 from lib.whole_modules import ECHO, ENDLESS, NOTHING, UNREACHABLE
 
@@ -155,11 +156,10 @@ def compare():
 
 
 def main(words):
-    if words[:1] == ["write"] and len(words) == 4:
+    usage.only([[], [lambda word: word == "write", os.path.isdir, usage.is_number, usage.is_number]], words, __doc__)
+    if words:
         write(words[1], int(words[2]), int(words[3]))
         return 0
-    if words:
-        sys.exit(__doc__)
     return compare()
 
 

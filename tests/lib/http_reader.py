@@ -14,13 +14,30 @@ HEAD = re.compile(
     rb"(?P<lines>(?:[!#$%&'*+\-.^_`|~0-9A-Za-z]+:[\t\x20-\x7e\x80-\xff]*\r?\n)*)"
     rb"\r?\n"
 )
+EMPTY_LINES = re.compile(rb"(?:\r\n)*")
+LINE_END = re.compile(rb"\r?\n")
 LINE = re.compile(rb"(?P<name>[^:]+):(?P<value>[^\r\n]*)\r?\n")
 TARGET = re.compile(rb"(?:(?=/)|[hH][tT][tT][pP]://[^/?]+(?=[/?]|$))(?P<path>[^?]*)")
 
 
-def head_of(stream):
-    """The match of the head in front of the stream, if it has one."""
-    match = HEAD.match(stream[:MOST_HEAD])
+class Heard:
+    """A request for a path, or the refusal with this number. `line` is its first line, where its bytes have a head. It is whole with so many
+    bytes of its stream (`end`), or with the end of the stream (None)."""
+
+    def __init__(self, end, number=None, line=None, method=None, path=None, keep=False, body=b""):
+        self.end, self.number, self.line, self.method, self.path, self.keep, self.body = end, number, line, method, path, keep, body
+        self.head = method == b"HEAD"
+
+    def written(self):
+        if self.number:
+            return "%d %s %s;" % (self.number, "head" if self.head else "whole", "keep" if self.keep else "close")
+        keep = "keep" if self.keep else "close"
+        return "%s %s %s %d:%d;" % (self.method.decode(), self.path.decode(), keep, len(self.body), mark_of(self.body))
+
+
+def head_at(stream, at):
+    """The match of the head at this place of the stream, if there is one."""
+    match = HEAD.match(stream, at, at + MOST_HEAD)
     if match is None:
         return None
     if match["lines"].count(b"\n") > MOST_LINES:
@@ -39,59 +56,60 @@ def mark_of(body):
     return mark
 
 
-def fault(number, head=False, keep=False):
-    return "%d %s %s;" % (number, "head" if head else "whole", "keep" if keep else "close")
-
-
-def items_of(stream, ended):
+def heard_of(stream, ended):
     """What the stream asks, item by item."""
+    at = 0
     while True:
-        match = head_of(stream)
+        match, left = head_at(stream, at), len(stream) - at
         if match is None:
-            if stream == b"" or (ended and len(stream) < MOST_HEAD and re.fullmatch(rb"(?:\r\n)*", stream)):
+            if left == 0 or (ended and left < MOST_HEAD and EMPTY_LINES.fullmatch(stream, at)):
                 return
-            if len(stream) >= MOST_HEAD or ended:
-                yield fault(1)
+            if left >= MOST_HEAD or ended:
+                yield Heard(at + MOST_HEAD if left >= MOST_HEAD else None, 1)
             return
-        stream = stream[match.end() :]
+        at = match.end()
         method = match["method"]
-        head = method == b"HEAD"
+        asked = {"line": LINE_END.split(stream[match.start("method") : at], maxsplit=1)[0], "method": method}
         lines = [(line["name"].lower(), line["value"].strip(b" \t")) for line in LINE.finditer(match["lines"])]
         old = match["minor"] == b"0"
         if not old and [name for name, _ in lines].count(b"host") != 1:
-            yield fault(2, head)
+            yield Heard(at, 2, **asked)
             return
         if any(name == b"transfer-encoding" for name, _ in lines):
-            yield fault(3, head)
+            yield Heard(at, 3, **asked)
             return
         lengths = [value for name, value in lines if name == b"content-length"]
         if len(lengths) > 1 or not all(re.fullmatch(rb"[0-9]+", value) for value in lengths):
-            yield fault(4, head)
+            yield Heard(at, 4, **asked)
             return
         digits = lengths[0].lstrip(b"0") if lengths else b""
         if len(digits) > 7 or (digits and int(digits) > MOST_BODY):
-            yield fault(5, head)
+            yield Heard(at, 5, **asked)
             return
         size = int(digits or b"0")
-        if len(stream) < size:
+        if len(stream) - at < size:
             if ended:
-                yield fault(6, head)
+                yield Heard(None, 6, **asked)
             return
-        body, stream = stream[:size], stream[size:]
+        body, at = stream[at : at + size], at + size
         words = b",".join(value for name, value in lines if name == b"connection").split(b",")
         keep = not old and not any(word.strip(b" \t").lower() == b"close" for word in words)
         target = match["target"]
         form = TARGET.match(target) if re.fullmatch(rb"[\x21-\x7e]+", target) else None
         if form is None:
-            yield fault(7, head)
+            yield Heard(at, 7, **asked)
             return
         if method not in (b"GET", b"HEAD", b"POST"):
-            yield fault(8, head, keep)
+            yield Heard(at, 8, keep=keep, **asked)
         else:
-            path = form["path"] or b"/"
-            yield "%s %s %s %d:%d;" % (method.decode(), path.decode(), "keep" if keep else "close", size, mark_of(body))
+            yield Heard(at, keep=keep, path=form["path"] or b"/", body=body, **asked)
         if not keep:
             return
+
+
+def items_of(stream, ended):
+    """The same, each item as a text."""
+    return (item.written() for item in heard_of(stream, ended))
 
 
 # The status and the body of each refusal.

@@ -182,9 +182,11 @@ def decode(data):
 
 
 class Broken(Exception):
-    def __init__(self, number, item, function=None):
+    """The number of the rule, the item, the number of the body among the bodies or None, the list that has the item, and for 31 the types."""
+
+    def __init__(self, number, item, function=None, part=None, types=None):
         super().__init__(number, function, item)
-        self.number, self.function, self.item = number, function, item
+        self.number, self.function, self.item, self.part, self.types = number, function, item, part, types
 
 
 class Body:
@@ -198,12 +200,12 @@ class Body:
         self.frames = []
         self.enter(0x02, results)
 
-    def breaks(self, number):
-        raise Broken(number, self.place)
+    def breaks(self, number, types=None):
+        raise Broken(number, self.place, types=types)
 
-    def need(self, holds, number):
+    def need(self, holds, number, types=None):
         if not holds:
-            self.breaks(number)
+            self.breaks(number, types)
 
     def push(self, types):
         self.operands += types
@@ -214,7 +216,7 @@ class Body:
             self.need(loose, STACK_HEIGHT)
             return wanted
         found = self.operands.pop()
-        self.need(found is None or wanted is None or found == wanted, OPERAND_TYPE)
+        self.need(found is None or wanted is None or found == wanted, OPERAND_TYPE, (found, wanted))
         return wanted if found is None else found
 
     def pop_all(self, types):
@@ -358,7 +360,7 @@ def check_body(module, number):
         try:
             body.step(operator)
         except Broken as broken:
-            raise Broken(broken.number, broken.item, number) from None
+            raise Broken(broken.number, broken.item, number, "bodies", broken.types) from None
         # The closing `end` of the body is no operator of its own.
         body.most = body.most if is_last else max(body.most, len(body.operands))
     return body.most, body.deepest
@@ -409,35 +411,69 @@ def check_segment(item, index, items, offset):
         raise Broken(CONSTANT_TYPE, item)
 
 
-def check(module):
-    imported = check_imports(module)
+def check_functions(module):
     for item, index in enumerate(module.function_indices):
         if index >= len(module.types):
             raise Broken(UNKNOWN_INDEX, item)
-    for item, limits in enumerate(module.own_tables):
-        check_limits(1, limits, item, imported[1] + item)
-    for item, limits in enumerate(module.own_memories):
-        check_limits(2, limits, item, imported[2] + item)
+
+
+def check_sizes(kind, own, before):
+    for item, limits in enumerate(own):
+        check_limits(kind, limits, item, before + item)
+
+
+def check_globals(module):
     for item, (value, _, constant) in enumerate(module.own_globals):
         if value != constant[0]:
             raise Broken(CONSTANT_TYPE, item)
-    check_exports(module)
-    check_start(module)
+
+
+def check_elements(module):
     for item, (table, offset, functions) in enumerate(module.elements):
         check_segment(item, table, module.tables, offset)
         if any(index >= len(module.functions) for index in functions):
             raise Broken(UNKNOWN_INDEX, item)
+
+
+def check_segments(module):
     for item, (memory, offset, _) in enumerate(module.segments):
         check_segment(item, memory, module.memories, offset)
+
+
+def within(part, look, *arguments):
+    """The look at a list, whose name what is broken there is given."""
+    try:
+        return look(*arguments)
+    except Broken as broken:
+        broken.part = part
+        raise
+
+
+def check(module):
+    imported = within("imports", check_imports, module)
+    within("functions", check_functions, module)
+    within("tables", check_sizes, 1, module.own_tables, imported[1])
+    within("memories", check_sizes, 2, module.own_memories, imported[2])
+    within("globals", check_globals, module)
+    within("exports", check_exports, module)
+    within("the start function", check_start, module)
+    within("element segments", check_elements, module)
+    within("data segments", check_segments, module)
     return [check_body(module, number) for number in range(len(module.bodies))]
 
 
-def violation(module):
+def broken(module):
+    """What is broken first, or None where the module is valid."""
     try:
         check(module)
-    except Broken as broken:
-        return broken.number, broken.function, broken.item
+    except Broken as found:
+        return found
     return None
+
+
+def violation(module):
+    found = broken(module)
+    return found and (found.number, found.function, found.item)
 
 
 def measures(module):

@@ -14,6 +14,7 @@ import sys
 
 MAGIC = b"SLR1"
 END, BEGIN, PIECE, CLOSE = range(4)
+NAMES = ("end", "begin", "piece", "close")
 MOST_BYTES = 32 * 1024 * 1024
 MOST_CONNECTIONS = 1024
 
@@ -54,58 +55,77 @@ def record_of_line(line):
 
 
 class Refused(Exception):
-    pass
+    """The number; the place of the byte that is looked at, from 0 on; the number of its record; and further facts by names."""
+
+    def __init__(self, number, at=0, record=0, **facts):
+        super().__init__(number)
+        self.number, self.at, self.record, self.facts = number, at, record, facts
 
 
-def read(data, tenants):
+def read_records(data, tenants):
+    """Each record as its kind, moment and link, and its tenant, its bytes or None."""
     if len(data) > MOST_BYTES:
-        raise Refused(76)
+        raise Refused(76, size=len(data))
     if data[:4] != MAGIC:
         raise Refused(70)
     at, last, open_links, records = 4, 0, [], []
+
+    def refuse(number, place, **facts):
+        raise Refused(number, place, len(records), **facts)
+
     while True:
         if at == len(data):
-            raise Refused(71)
+            refuse(71, at, part="the end")
         kind = data[at]
         if kind > 3:
-            raise Refused(72)
+            refuse(72, at, kind=kind)
         if kind == END:
             if at + 1 < len(data):
-                raise Refused(78)
+                refuse(78, at + 1, rest=len(data) - at - 1)
             return records
         if at + 9 > len(data):
-            raise Refused(71)
+            refuse(71, at, part="a record")
         moment, link = struct.unpack_from("<II", data, at + 1)
         if moment < last:
-            raise Refused(73)
+            refuse(73, at, moment=moment, last=last)
         if kind == BEGIN:
             if link != len(open_links):
-                raise Refused(74)
+                refuse(74, at, link=link, next=len(open_links))
         elif link >= len(open_links) or not open_links[link]:
-            raise Refused(74)
+            refuse(74, at, link=link, kind=kind, begun=link < len(open_links))
         number, end = None, at + 9
         if kind != CLOSE:
             if at + 13 > len(data):
-                raise Refused(71)
+                refuse(71, at, part="a record")
             (number,) = struct.unpack_from("<I", data, at + 9)
             end = at + 13
         if kind == PIECE:
             end += number
             if end > len(data):
-                raise Refused(71)
+                refuse(71, at, part="a piece", length=number, left=len(data) - at - 13)
         if link >= MOST_CONNECTIONS:
-            raise Refused(76)
+            refuse(76, at, link=link)
         if kind == BEGIN and number >= tenants:
-            raise Refused(75)
+            refuse(75, at, link=link, tenant=number, tenants=tenants)
         if kind == BEGIN:
             open_links.append(True)
-            records.append("begin %d %d %d" % (moment, link, number))
+            records.append((BEGIN, moment, link, number))
         elif kind == PIECE:
-            records.append("piece %d %d %s" % (moment, link, data[at + 13 : end].hex() or "-"))
+            records.append((PIECE, moment, link, data[at + 13 : end]))
         else:
             open_links[link] = False
-            records.append("close %d %d" % (moment, link))
+            records.append((CLOSE, moment, link, None))
         at, last = end, moment
+
+
+def told(kind, moment, link, value):
+    """A record in words."""
+    rest = {BEGIN: lambda: " %d" % value, PIECE: lambda: " " + (value.hex() or "-"), CLOSE: lambda: ""}[kind]()
+    return "%s %d %d%s" % (NAMES[kind], moment, link, rest)
+
+
+def read(data, tenants):
+    return [told(*record) for record in read_records(data, tenants)]
 
 
 def answer(data, tenants):

@@ -55,6 +55,6 @@ def main(crate, files, words):
     """Does what the words ask for with the files that `files` makes, a text for each name; answers the exit status."""
     if len(words) > 2 or words[:1] not in ([], ["check"], ["make"]):
         print("usage: tests/%s.py [check|make [FOLDER]]" % crate)
-        return 2
+        return 0 if words == ["--help"] else 2
     folder = words[1] if len(words) == 2 else os.path.join(TOP, "crates", crate)
     return (written if words[:1] == ["make"] else checked)(folder, files())

@@ -7,11 +7,15 @@ Each recording is made of requests and of faulty bytes whose fate is known as th
 HTTP: where each ends in its stream, and whether it closes the connection. The streams are cut into pieces at
 random, and the pieces of all connections are mixed. From that the arrivals, the meters, the replies, the text and
 the summary are reckoned by docs/FORMATS.md alone; the interpreter in Python says what the functions do.
+
+Where there are several tenants, the recording is replayed again for each of them, without the connections of all
+others: its replies must be the same.
 """
 
 import json
 import os
 import random
+import struct
 import sys
 import tempfile
 from concurrent.futures import ThreadPoolExecutor
@@ -98,28 +102,66 @@ class Case:
     def __init__(self, name, tenants, quantum, connections, records, **others):
         self.name, self.config, self.data = name, configuration(tenants, quantum, **others), spelt(records)
         self.wanted = due(tenants, quantum, connections, records)
+        self.owners, self.records = [connection.tenant for connection in connections], records
+
+    def tenants(self):
+        """Those that are replayed alone: all, where there are several."""
+        several = len(self.config["tenants"])
+        return range(several) if several > 1 else ()
 
 
-def replayed(folder, number, case):
-    names = ["%s%d" % (kind, number) for kind in ("config", "recording")]
-    lay(folder, dict(zip(names, (json.dumps(case.config).encode(), case.data))))
+def replayed(folder, name, config, data):
+    names = ["%s-%s" % (kind, name) for kind in ("config", "recording")]
+    lay(folder, dict(zip(names, (json.dumps(config).encode(), data))))
     return run(["replay", *names], folder)
 
 
+def alone(records, tenant):
+    """The records of this tenant's connections, which are numbered anew, in order."""
+    numbers, kept = {}, []
+    for moment, link, what in records:
+        if isinstance(what, int) and what == tenant:
+            numbers[link] = len(numbers)
+        if link in numbers:
+            kept.append((moment, numbers[link], what))
+    return kept
+
+
+def read_back(text):
+    """The replies of each connection that a text tells, in order."""
+    replies, place = [], 4
+    while place < len(text):
+        link, size = struct.unpack_from("<II", text, place)
+        assert link == len(replies)
+        replies.append(text[place + 8 : place + 8 + size])
+        place += 8 + size
+    return replies
+
+
+def compared(folder, number, case):
+    """How many comparisons were made, and how many of them differ: of the whole, and then of each tenant with its replies alone."""
+    got = replayed(folder, number, case.config, case.data)
+    compared, failed = 1, differs(case.name, case.wanted, got)
+    for tenant in case.tenants() if got[0] == 0 else ():
+        status, text, _ = replayed(folder, "%d-of-%d" % (number, tenant), case.config, spelt(alone(case.records, tenant)))
+        own = [replies for owner, replies in zip(case.owners, read_back(got[1])) if owner == tenant]
+        compared, failed = compared + 1, failed + differs("%s, tenant %d alone" % (case.name, tenant), (0, own), (status, read_back(text)))
+    return compared, failed
+
+
 def compare(cases):
-    """Prints each case that differs, and answers how many did."""
+    """Prints each comparison that differs, and answers how many did."""
     build()
     with tempfile.TemporaryDirectory() as folder, ThreadPoolExecutor(os.cpu_count()) as pool:
         lay(folder, MODULES)
-        answers = pool.map(lambda item: replayed(folder, *item), enumerate(cases))
-        failed = sum(differs(case.name, case.wanted, got) for case, got in zip(cases, answers))
-    print("%d passed, %d failed" % (len(cases) - failed, failed))
+        made, failed = map(sum, zip(*pool.map(lambda item: compared(folder, *item), enumerate(cases))))
+    print("%d passed, %d failed" % (made - failed, failed))
     return failed
 
 
 def made_tenants(chance):
     tenants = []
-    for _ in range(chance.choice([1, 1, 2, 3])):
+    for _ in range(chance.choice([1, 2, 3, 4])):
         capacity = chance.choice([0, 100, 1000, 10**6])
         names = chance.sample(list(MODULES), chance.randrange(1, len(MODULES) + 1))
         routes = [Route("/" + name, name, chance.choice([0, 5, 77, 1000, 10**6] if name != "loop" else [0, 5, 2000]), 2,

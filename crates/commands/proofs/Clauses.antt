@@ -1,5 +1,5 @@
 -- Each clause of `run` follows from its one ending, whatever the command.
-use Rattle.std.proofs.Common.{◌≡◌, ◌≢◌, ◌⊎◌, inl, inr, ℕ, List, Option, None, Some, IfSome, IsSomeAnd, refl, sym, ap, subst, ◌∙◌}
+use Rattle.std.proofs.Common.{◌≡◌, ◌≢◌, ◌⊎◌, inl, inr, ℕ, ◌^◌, ◌<◌, List, length, Option, None, Some, IfSome, IsSomeAnd, refl, sym, ap, subst, ◌∙◌, arith}
 use Rattle.outside.specs.Faults.{Rose}
 use Rattle.outside.specs.Library.{Files, LibraryState}
 use Rattle.outside.specs.Sink.{SinkState}
@@ -8,8 +8,8 @@ use Rattle.commands.proofs.Walking.{Failed, Giving, IsOfFiles, Lawful, walk_byte
 use Rattle.commands.specs.CommandLine.{Asked}
 use Rattle.commands.specs.Commands.{plan_of}
 use Rattle.commands.specs.Delivery.{Leaves, Took, WroteInPart}
-use Rattle.commands.specs.Endings.{Done, Ended, Refuses, note_of, out_of_memory, status_of, text_of}
-use Rattle.commands.specs.Plans.{ReadsBytes, Walks, over}
+use Rattle.commands.specs.Endings.{Done, Due, Ended, IsBrief, Refuses, note_of, out_of_memory, status_of, text_of}
+use Rattle.commands.specs.Plans.{Comes, ReadsBytes, Walks, over}
 use Rattle.commands.specs.Promises.{Refused, WriteRose, Yields}
 use Rattle.commands.specs.declared.status.Status.{Status}
 use Rattle.commands.specs.declared.status.Status.TheVariants as status
@@ -152,3 +152,16 @@ leaves_no_server gave (Some asked) old new e result out out' notes notes' (inl w
       | inl own ↦ (λ is. absurd (subst IsOfFiles (sym s ∙ is) own), λ is. absurd (subst IsOfFiles (sym s ∙ is) own))
       | inr read ↦ let same = s ∙ read in (λ is. cc, λ is. cc)
     ]
+
+brief_over : {L : Type 0} (state : L → LibraryState) (gave : Giving L) → Lawful state gave → (files : Files) (asked : Option Asked) (old new : L) (planned : Due)
+    → (state old).held ≡ Some files → planned.status ≡ status.Ok → IsBrief planned → Comes gave (plan_of asked) old new planned → length (text_of (over files (plan_of asked))) < 2 ^ 32
+brief_over state gave tells files asked old new planned holds done brief comes =
+    elim (ends_over state gave tells files asked old new comes.ending holds comes.walk) [
+      | inl same ↦ omega (arith, brief, ap (λ (d : Due). length d.text) comes.is_due, ap (λ (e : Ended). length (text_of e)) same)
+      | inr failed ↦ let other = sym done ∙ ap (λ (d : Due). d.status) comes.is_due ∙ failed.0 in cc
+    ]
+
+pub comes_brief : {L : Type 0} (state : L → LibraryState) (gave : Giving L) → Lawful state gave → (held : Option Files) (asked : Option Asked) (old new : L) (planned : Due)
+    → (state old).held ≡ held → planned.status ≡ status.Ok → IsBrief planned → Comes gave (plan_of asked) old new planned → IfSome held (λ files. length (text_of (over files (plan_of asked))) < 2 ^ 32)
+comes_brief state gave tells None asked old new planned holds done brief comes = tt
+comes_brief state gave tells (Some files) asked old new planned holds done brief comes = brief_over state gave tells files asked old new planned holds done brief comes

@@ -16,3 +16,4 @@ pub mod SoakLaws
 pub mod SoakWords
 pub mod SoakWalks
 pub mod Walking
+pub mod Brief

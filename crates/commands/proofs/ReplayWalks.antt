@@ -1,20 +1,22 @@
 -- The read of a recording, and its replay, are those of the plan.
-use Rattle.std.proofs.Common.{◌≡◌, ℕ, ◌^◌, ◌<◌, ◌≤◌, Bool, true, false, List, [], ◌∷◌, length, Option, None, Some, Result, Ok, Err, inl, inr, refl, sym, ap, subst, ◌∙◌, arith}
+use Rattle.std.proofs.Common.{◌≡◌, ℕ, ◌^◌, ◌<◌, Bool, false, List, [], ◌∷◌, length, Option, None, Some, Ok, Err, inl, inr, sym, ap, subst, ◌∙◌, arith}
 use Rattle.std.specs.List.{AllByRecursion}
 use Rattle.std.specs.Prelude.{IfSome}
-use Rattle.outside.specs.Library.{Fetched, Files, Gives, LibraryState}
+use Rattle.outside.specs.Library.{Files, Gives, LibraryState}
 use Rattle.outside.specs.Sink.{SinkState}
 use Rattle.wasm_meaning.specs.Programs.{Program}
 use Rattle.serve_config.specs.Configuration.{Configuration}
 use Rattle.recording_format.specs.Faults.{IsFor}
 use Rattle.recording_format.specs.Recorded.{EventFits, Fits, IsRefused, Recorded}
-use Rattle.recording_format.specs.Refusals.{number_of}
 use Rattle.recording_format.specs.declared.faults.RecordingFault.{RecordingFault}
 use Rattle.recording_format.specs.declared.faults.RecordingFault.TheVariants.{Refused as Numbered}
 use Rattle.recording_format.specs.declared.records.Event.{Event}
 use Rattle.recording_format.specs.declared.records.Event.TheVariants.{Begins, Arrives, Closes}
 use Rattle.recording_format.specs.declared.records.Record.{Record}
-use Rattle.recorded_arrivals.specs.Limits.{IsTooMany, has_too_many}
+use Rattle.recorded_arrivals.specs.Limits.{IsTooMany}
+use Rattle.recording_format.specs.Following.{IsLegal}
+use Rattle.recorded_runner.specs.Alone.{alone}
+use Rattle.recorded_runner.specs.Readings.{replies_in, replies_to}
 use Rattle.recorded_runner.specs.ReplayText.{replay_text}
 use Rattle.recorded_runner.specs.Serving.{AreOwned, IsOwned, IsPlayed}
 use Rattle.recorded_runner.specs.declared.played.Played.{Played}
@@ -22,16 +24,16 @@ use Rattle.recorded_runner.specs.declared.played.Summary.{Summary}
 use Rattle.commands.proofs.BytesRead.{ready_read, recording_spelt}
 use Rattle.commands.proofs.Checks.{recording_checked}
 use Rattle.commands.proofs.RecordingLaws.{recorded_is, refused_is}
-use Rattle.commands.proofs.ReplayLaws.{done_is_answered}
+use Rattle.commands.proofs.ReplayLaws.{done_is_answered, recorded}
 use Rattle.commands.proofs.Walking.{Giving, comes_end, comes_given}
 use Rattle.commands.specs.CommandLine.{Asked, AsksReplay, ReplayWords, command_of}
 use Rattle.commands.specs.Commands.{ending, plan_of}
 use Rattle.commands.specs.Delivery.{Took}
-use Rattle.commands.specs.Endings.{Done, Due, Ended, due, recording_fault, status_of}
-use Rattle.commands.specs.Plans.{Comes, Ends, Goes, Plan, ReadsBytes, Step, Stops, found, go_on, over}
+use Rattle.commands.specs.Endings.{Done, Due, Ended, due, recording_fault, status_of, text_of}
+use Rattle.commands.specs.Plans.{Comes, Ends, Goes, ReadsBytes, Step, Stops, found, go_on, over}
 use Rattle.commands.specs.Promises.{Yields}
 use Rattle.commands.specs.ReplayPlans.{check_recording, recording_end, recording_limit, recording_plan, replayed, summary_line, unless_too_many}
-use Rattle.commands.specs.Replays.{AnswersReplay, WritesReplay}
+use Rattle.commands.specs.Replays.{AnswersReplay, WritesApart, WritesReplay}
 use Rattle.commands.specs.declared.status.Status.{Status}
 use Rattle.commands.specs.declared.status.Status.TheVariants as status
 
@@ -120,3 +122,28 @@ pub writes_replay
 writes_replay None words r result lib lib' out out' notes notes' done asks yields took reads = tt
 writes_replay (Some files) words r result lib lib' out out' notes notes' done asks yields took reads =
     writes words files r out out' notes notes' asks (done_is_answered words files r asks (status_is _ result lib lib' out out' notes notes' yields done)) took reads
+
+-- and that each tenant's replies are those that it has alone
+
+-- a text of a legal recording's replay, where it is short
+abbrev pub AreIsolated : Type 0
+AreIsolated = (config : Configuration) (programs : List Program) (records : List Record) (tenant : ℕ) → IsLegal records → length (replay_text config programs records) < 2 ^ 32
+    → replies_to tenant records (replay_text config programs records) ≡ replies_in (alone tenant records) (replay_text config programs (alone tenant records))
+
+pub writes_apart : AreIsolated → (held : Option Files) (words : List (List ℕ)) (r : ReplayWords) (out out' notes notes' : SinkState) → command_of words ≡ Some (AsksReplay r)
+    → IfSome held (λ files. length (text_of (over files (plan_of (command_of words)))) < 2 ^ 32) → IfSome held (λ files. WritesReplay r files out out' notes notes') → IfSome held (λ files. WritesApart r files out out')
+writes_apart isolated None words r out out' notes notes' asks brief writes = tt
+writes_apart isolated (Some files) words r out out' notes notes' asks brief w =
+    let are = w.files_are in
+    let ends : ending words files ≡ unless_too_many false w.config w.programs w.records =
+    recorded words files r w.config w.programs are.recorded.file w.records false asks are.ready are.recorded.holds are.recorded.accepted are.few in
+    let few : length (replay_text w.config w.programs w.records) < 2 ^ 32 = omega (arith, brief, ap (λ (e : Ended). length (text_of e)) ends) in
+    record {
+      config = w.config;
+      programs = w.programs;
+      records = w.records;
+      files_are = are;
+      text = replay_text w.config w.programs w.records;
+      out_took = w.out_took;
+      apart = λ tenant. isolated w.config w.programs w.records tenant w.spelt.legal few;
+    }

@@ -1,5 +1,5 @@
 -- How a command ends: its status, what is due on the output, and what is due on the notes.
-use Rattle.std.specs.Prelude.{ℕ, false, true, List, [], ◌++◌, codes, decimal}
+use Rattle.std.specs.Prelude.{ℕ, ◌<◌, ◌^◌, false, true, List, [], ◌++◌, length, codes, decimal}
 use Rattle.http_front.specs.Reported.{Reported}
 use Rattle.http_front.specs.Reply.{reply_of}
 use Rattle.commands.specs.Texts.{line, octet_stream}
@@ -33,6 +33,10 @@ pub record Due : Type 0 where
 
 abbrev pub due : Ended → Due
 due e = record { status = status_of e; text = text_of e; note = note_of e }
+
+-- what is due on the output is so short that 32 bits can tell how long it is
+abbrev pub IsBrief : Due → Type 0
+IsBrief planned = length planned.text < 2 ^ 32
 
 -- the words have none of the shapes
 abbrev pub usage : Ended

@@ -9,10 +9,16 @@ use Rattle.serve_config.specs.Loaded.{programs_in}
 use Rattle.serve_config.specs.Routing.{all_routes}
 use Rattle.recorded_runner.specs.Serving.{AreProgramsOf}
 use Rattle.commands.specs.CheckPlans.{Onward, routes_plan}
+use Rattle.commands.specs.Endings.{IsBrief}
 use Rattle.commands.specs.Plans.{Comes, Leads, Plan}
 use Rattle.commands.specs.declared.checking.Configured.{Configured}
 use Rattle.commands.specs.declared.checking.Unready.{Unready}
 use Rattle.commands.specs.declared.checking.Unready.TheVariants.{Refused, NoMemory}
+
+-- what ends a command that cannot go on is brief
+abbrev pub EndsBrief : Unready → Type 0
+EndsBrief (Refused planned) = IsBrief planned
+EndsBrief NoMemory = Unit {0}
 
 -- the reads were made with which a plan of this form begins, whatever it goes on with: behind them it goes on with what is answered,
 -- which are programs with the pages of the routes, or it has ended, or memory ran out

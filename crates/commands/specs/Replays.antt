@@ -10,6 +10,8 @@ use Rattle.serve_config.specs.Routing.{all_routes}
 use Rattle.recording_format.specs.declared.records.Record.{Record}
 use Rattle.recording_format.specs.Recorded.{Recorded}
 use Rattle.recorded_arrivals.specs.Limits.{has_too_many}
+use Rattle.recorded_runner.specs.Alone.{alone}
+use Rattle.recorded_runner.specs.Readings.{replies_in, replies_to}
 use Rattle.recorded_runner.specs.ReplayText.{replay_text}
 use Rattle.recorded_runner.specs.Summaries.{summary_of}
 use Rattle.commands.specs.CommandLine.{ReplayWords}
@@ -60,3 +62,20 @@ pub record WritesReplay (words : ReplayWords) (files : Files) (out out' notes no
   pub answered : AllByRecursion HasVerdicts programs
   pub out_took : Appends out out' (replay_text config programs records)
   pub notes_took : Appends notes notes' (summary_line (summary_of config programs records))
+
+-- Each tenant's replies in this text, read back connection by connection, are those that a replay of its connections alone writes: of the
+-- recording without the connections of all others.
+abbrev pub AreApart : Configuration → List Program → List Record → (text : List ℕ) → Type 0
+AreApart config programs records text =
+    (tenant : ℕ)
+    → replies_to tenant records text ≡ replies_in (alone tenant records) (replay_text config programs (alone tenant records))
+
+-- the output took a text in which each tenant's replies are those that it has alone
+pub record WritesApart (words : ReplayWords) (files : Files) (out out' : SinkState) : Type 0 where
+  pub config : Configuration
+  pub programs : List Program
+  pub records : List Record
+  pub files_are : Replays words files config programs records
+  pub text : List ℕ
+  pub out_took : Appends out out' text
+  pub apart : AreApart config programs records text

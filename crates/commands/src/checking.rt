@@ -1,10 +1,10 @@
 //! A configuration with its modules: it is read and checked, and then each route's module is.
 
-ghost use Rattle.std.specs.Prelude.{◌≡◌, ◌≤◌, IfOk, length};
+ghost use Rattle.std.specs.Prelude.{◌≡◌, ◌≤◌, IfErr, IfOk, length};
 ghost use Rattle.serve_config.specs.Routing.{all_routes};
 ghost use Rattle.commands.specs.CheckPlans.{check_config, check_plan, config_plan, routes_plan};
 ghost use Rattle.commands.specs.Plans.{Comes, go_on};
-ghost use Rattle.commands.specs.Readying.{Readies, ReadiesPrograms};
+ghost use Rattle.commands.specs.Readying.{EndsBrief, Readies, ReadiesPrograms};
 ghost use Rattle.commands.specs.declared.checking.Unready.TheVariants.{NoMemory as IsNoMemory, Refused as IsRefused};
 
 use crate::ending::Ending;
@@ -72,8 +72,10 @@ pub fn check<L: Library>(alloc: Global, name: &str, lib: &mut L) -> Result<Endin
 }
 
 /// The configuration in the file of this name, and the programs of its routes.
+#[tactic(auto, using(crate::proofs::Brief::brief_refusal))]
 pub fn prepare<L: Library>(alloc: Global, name: &str, lib: &mut L) -> Result<Configured, Unready>
     ensures readies { Readies L.gave (config_plan name.now) result lib.old lib.new }
+    ensures brief { IfErr result EndsBrief }
     ensures same { (L.state lib.new).held ≡ (L.state lib.old).held }
     ensures later { (L.state lib.old).faults ≤ (L.state lib.new).faults }
 {
@@ -87,9 +89,11 @@ pub fn prepare<L: Library>(alloc: Global, name: &str, lib: &mut L) -> Result<Con
 }
 
 /// The configuration that the bytes are, and the programs of its routes.
+#[tactic(auto, using(crate::proofs::Brief::brief_refusal))]
 fn from_bytes<L: Library>(alloc: Global, bytes: &[u8], lib: &mut L) -> Result<Configured, Unready>
     ensures readies { Readies L.gave (λ next. go_on (routes_plan next) (check_config bytes.now))
         result lib.old lib.new }
+    ensures brief { IfErr result EndsBrief }
     ensures same { (L.state lib.new).held ≡ (L.state lib.old).held }
     ensures later { (L.state lib.old).faults ≤ (L.state lib.new).faults }
 {
@@ -109,6 +113,7 @@ fn with_programs<L: Library>(
     lib: &mut L,
 ) -> Result<Configured, Unready>
     ensures readies { Readies L.gave (λ next. routes_plan next config) result lib.old lib.new }
+    ensures brief { IfErr result EndsBrief }
     ensures same { (L.state lib.new).held ≡ (L.state lib.old).held }
     ensures later { (L.state lib.old).faults ≤ (L.state lib.new).faults }
 {
@@ -122,12 +127,14 @@ fn with_programs<L: Library>(
 }
 
 /// The programs of the configuration's routes.
+#[tactic(auto, using(crate::proofs::Brief::brief_refusal))]
 fn programs_of<L: Library>(
     alloc: Global,
     config: &Config,
     lib: &mut L,
 ) -> Result<Vec<Arc<Program>>, Unready>
     ensures readies { ReadiesPrograms L.gave config.now result lib.old lib.new }
+    ensures brief { IfErr result EndsBrief }
     ensures same { (L.state lib.new).held ≡ (L.state lib.old).held }
     ensures later { (L.state lib.old).faults ≤ (L.state lib.new).faults }
 {

@@ -1,10 +1,10 @@
 //! From the words to the ending: reads each file in its order, checks it, and runs.
 
-ghost use Rattle.std.specs.Prelude.{◌≡◌, ◌^◌, ◌≤◌, map, IfOk, string_bytes};
+ghost use Rattle.std.specs.Prelude.{◌≡◌, ◌^◌, ◌≤◌, map, IfOk, Some, string_bytes};
 ghost use Rattle.commands.specs.ModuleChecks.{given_pages};
-ghost use Rattle.commands.specs.CommandLine.{invoke_view};
+ghost use Rattle.commands.specs.CommandLine.{AsksReplay, ReplayWords, command_of, invoke_view};
 ghost use Rattle.commands.specs.Commands.{body_end, body_plan, check_body, check_invoked, invoke_plan, plan_for};
-ghost use Rattle.commands.specs.Endings.{due};
+ghost use Rattle.commands.specs.Endings.{IsBrief, due};
 ghost use Rattle.commands.specs.Plans.{Comes, go_on};
 
 use crate::checking::check;
@@ -41,6 +41,8 @@ pub fn plan<R: Threads + Sync, L: Library, G: Gate>(
 ) -> Result<Ending, AllocError>
     ensures comes { IfOk result
         (Comes L.gave (plan_for (map string_bytes words.now)) lib.old lib.new) }
+    ensures brief { (r : ReplayWords) → command_of (map string_bytes words.now) ≡ Some (AsksReplay r)
+        → IfOk result IsBrief }
     ensures same { (L.state lib.new).held ≡ (L.state lib.old).held }
     ensures later { (L.state lib.old).faults ≤ (L.state lib.new).faults }
 {

@@ -5,7 +5,7 @@ ghost use Rattle.recorded_runner.specs.Serving.{AreOwned, AreProgramsOf};
 ghost use Rattle.serve_config.specs.Loaded.{programs_in};
 ghost use Rattle.serve_config.specs.Routing.{all_routes};
 ghost use Rattle.commands.specs.CommandLine.{replay_view};
-ghost use Rattle.commands.specs.Endings.{due};
+ghost use Rattle.commands.specs.Endings.{IsBrief, due};
 ghost use Rattle.commands.specs.Plans.{Comes};
 ghost use Rattle.commands.specs.ReplayPlans.{check_recording, recording_end, recording_plan, replay_plan, replayed};
 
@@ -30,6 +30,7 @@ pub fn replay_files<R: Threads + Sync, L: Library, G: Gate>(
 ) -> Result<Ending, AllocError>
     ensures comes { IfOk result
         (Comes L.gave (replay_plan (replay_view words.entry)) lib.old lib.new) }
+    ensures brief { IfOk result IsBrief }
     ensures same { (L.state lib.new).held ≡ (L.state lib.old).held }
     ensures later { (L.state lib.old).faults ≤ (L.state lib.new).faults }
 {
@@ -57,6 +58,7 @@ fn from_recording<R: Threads + Sync, L: Library, G: Gate>(
     ensures comes { IfOk result (Comes L.gave
         (recording_plan name.now ready.now.config (programs_in ready.now.programs.items))
         lib.old lib.new) }
+    ensures brief { IfOk result IsBrief }
     ensures same { (L.state lib.new).held ≡ (L.state lib.old).held }
     ensures later { (L.state lib.old).faults ≤ (L.state lib.new).faults }
 {
@@ -79,7 +81,8 @@ fn from_bytes<R: Threads + Sync, G: Gate>(
 ) -> Result<Ending, AllocError>
     requires programs { AreProgramsOf (all_routes ready.now.config.tenants)
         (programs_in ready.now.programs.items) }
-    ensures { IfOk result (λ e. e ≡ due
+    ensures brief { IfOk result IsBrief }
+    ensures due { IfOk result (λ e. e ≡ due
         (recording_end ready.now.config (programs_in ready.now.programs.items)
         (check_recording (length ready.now.config.tenants) bytes.now))) }
 {
@@ -106,7 +109,8 @@ fn from_replay<R: Threads + Sync, G: Gate>(
     requires programs { AreProgramsOf (all_routes ready.now.config.tenants)
         (programs_in ready.now.programs.items) }
     requires tenants { AreOwned (length ready.now.config.tenants) recording.now }
-    ensures { IfOk result (λ e. e ≡ due
+    ensures brief { IfOk result IsBrief }
+    ensures due { IfOk result (λ e. e ≡ due
         (replayed ready.now.config (programs_in ready.now.programs.items) recording.now)) }
 {
     let programs = ready.programs.as_slice();

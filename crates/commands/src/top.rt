@@ -4,17 +4,18 @@ ghost use Rattle.std.specs.Prelude.{◌≡◌, ◌≢◌, ◌≤◌, ◌⊎◌, 
 ghost use Rattle.outside.specs.Faults.{Rose};
 ghost use Rattle.commands.specs.CommandLine.{AsksReplay, ReplayWords, command_of};
 ghost use Rattle.commands.specs.Commands.{ending, plan_for};
-ghost use Rattle.commands.specs.Endings.{Ended, out_of_memory, status_of};
+ghost use Rattle.commands.specs.Endings.{Due, Ended, IsBrief, out_of_memory, status_of};
 ghost use Rattle.commands.specs.Delivery.{Leaves, Took};
 ghost use Rattle.commands.specs.Handing.{HandsOver};
-ghost use Rattle.commands.specs.Plans.{ReadsBytes, Walks};
+ghost use Rattle.commands.specs.Plans.{Comes, ReadsBytes, Walks};
 ghost use Rattle.commands.specs.Promises.{Refused, WriteRose, Yields};
-ghost use Rattle.commands.specs.Replays.{WritesReplay};
+ghost use Rattle.commands.specs.Replays.{WritesApart, WritesReplay};
 
 use crate::delivery::deliver;
 use crate::planning::plan;
 use crate::status::Status;
 use outside::{Gate, Library, Sink};
+use recorded_runner::laws::tenants_are_isolated;
 use std::alloc::Global;
 use std::thread::Threads;
 
@@ -92,9 +93,17 @@ pub fn run<R: Threads + Sync, L: Library, S: Sink, N: Sink, G: Gate>(
         → IfSome (L.state lib.old).held (λ files. WritesReplay r files
         (S.state out.old) (S.state out.new) (N.state notes.old) (N.state notes.new)) }
 
+    // And no tenant's replies in it depend on what the others ask: they are those that a replay of
+    // the recording without the connections of all others has.
+    ensures isolated { result ≡ Status.Ok → (r : ReplayWords)
+        → command_of (map string_bytes words.now) ≡ Some (AsksReplay r)
+        → IfSome (L.state lib.old).held (λ files. WritesApart r files
+        (S.state out.old) (S.state out.new)) }
+
     ensures same_files { (L.state lib.new).held ≡ (L.state lib.old).held }
     ensures later { (L.state lib.old).faults ≤ (L.state lib.new).faults }
 {
+    tenants_are_isolated();
     carry_out(rt, alloc, words, lib, out, notes, gate)
 }
 
@@ -114,6 +123,10 @@ fn carry_out<R: Threads + Sync, L: Library, S: Sink, N: Sink, G: Gate>(
         × Leaves e result
         (S.state out.old) (S.state out.new) (N.state notes.old) (N.state notes.new)
         × HandsOver S.took N.took e result out.old out.new notes.old notes.new }
+    ensures brief { result ≡ Status.Ok → (r : ReplayWords)
+        → command_of (map string_bytes words.now) ≡ Some (AsksReplay r)
+        → (planned : Due) × (planned.status ≡ Status.Ok) × IsBrief planned
+        × Comes L.gave (plan_for (map string_bytes words.now)) lib.old lib.new planned }
     ensures same_files { (L.state lib.new).held ≡ (L.state lib.old).held }
     ensures later { (L.state lib.old).faults ≤ (L.state lib.new).faults }
 {

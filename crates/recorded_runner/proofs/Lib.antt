@@ -6,3 +6,11 @@ pub mod ServedLaws
 pub mod BatchLaws
 pub mod ReplayLaws
 pub mod SizeLaws
+pub mod KeptLaws
+pub mod NumberLaws
+pub mod AloneLaws
+pub mod AloneArrivals
+pub mod AloneLegal
+pub mod AloneFates
+pub mod IsolationLaws
+pub mod AloneFiles

@@ -1,5 +1,5 @@
 -- How long replies are.
-use Rattle.std.proofs.Common.{◌≡◌, ◌≢◌, ℕ, zero, suc, ◌+◌, ◌<◌, ◌≤◌, Bool, true, false, ◌==◌, if◌then◌else◌, List, [], ◌++◌, length, get_or, set, replicate, codes, decimal, refl, sym, ap, ◌∙◌, arith, length-append, get_or-set_same, get_or-set_other, eqb-true, eq-eqb, true≢false}
+use Rattle.std.proofs.Common.{◌≡◌, ℕ, zero, suc, ◌+◌, ◌*◌, ◌<◌, ◌≤◌, Bool, true, false, ◌==◌, if◌then◌else◌, List, [], ◌∷◌, ◌++◌, length, get_or, set, replicate, codes, decimal, refl, ap, arith, length-append}
 use Rattle.std.proofs.lemmas.Fmt.{length-decimal-le}
 use Rattle.http_front.specs.Reply.{status_of, phrase_of, content_type_of, body_of, status_line, header_line, allow_line, close_line, head_of, sent, reply_of}
 use Rattle.http_front.specs.Reported.{Reported, Replied, Exited, Trapped, OutOfBudget, RefusedAs}
@@ -7,7 +7,9 @@ use Rattle.http_items.specs.Refusals.{text_of}
 use Rattle.http_items.specs.declared.refusals.Refusal.{Refusal}
 use Rattle.http_items.specs.declared.refusals.Refusal.TheVariants.{BadHead, BadHost, TransferCoding, BadLength, TooLarge, CutBody, BadTarget, BadMethod, NoRoute, AdmissionSpent}
 use Rattle.workers.specs.Outcomes.{IsShort}
-use Rattle.recorded_runner.specs.Sizes.{AreWithin}
+use Rattle.recorded_runner.specs.Joined.{joined_from}
+use Rattle.recorded_runner.specs.ReplayText.{answers_magic, connection_text}
+use Rattle.recorded_runner.specs.Sizes.{AreWithin, total}
 
 text_few : (refusal : Refusal) → length (text_of refusal) ≤ 64
 text_few BadHead = omega arith
@@ -119,29 +121,43 @@ few_if reply r type head keep is short few = omega (arith, ap (λ (l : List ℕ)
 
 -- ---- many
 
-none_long : (n k : ℕ) → get_or (replicate {A = List ℕ} n []) k [] ≡ []
-none_long zero k = refl
-none_long (suc n) zero = refl
-none_long (suc n) (suc k) = none_long n k
+none_total : (n : ℕ) → total (replicate {A = List ℕ} n []) ≡ 0
+none_total zero = refl
+none_total (suc n) = omega (arith, none_total n)
 
 pub none_within : (n : ℕ) (replies : List (List ℕ)) → replies ≡ replicate n [] → AreWithin 0 replies
-none_within n replies are link = omega (arith, ap (λ (l : List ℕ). length l) (ap (λ (rs : List (List ℕ)). get_or rs link []) are ∙ none_long n link))
+none_within n replies are = omega (arith, ap (λ (rs : List (List ℕ)). total rs) are, none_total n)
+
+total_more : (link : ℕ) (all : List (List ℕ)) (reply : List ℕ) → link < length all → total (set all link (get_or all link [] ++ reply)) ≡ total all + length reply
+total_more link [] reply below = absurd (omega (arith, below))
+total_more zero (replies ∷ others) reply below = omega (arith, length-append replies reply)
+total_more (suc link) (replies ∷ others) reply below = omega (arith, total_more link others reply (omega (arith, below)))
 
 pub one_within : (most more link : ℕ) (old new : List (List ℕ)) (reply : List ℕ) → AreWithin most old → link < length old → new ≡ set old link (get_or old link [] ++ reply) → length reply ≤ more
     → AreWithin (most + more) new
-one_within most more link old new reply within below is few k = by (link == k) refl
-  where
-    by : (b : Bool) → (link == k) ≡ b → length (get_or new k []) ≤ most + more
-    by true e =
-        let here : get_or new k [] ≡ get_or old link [] ++ reply =
-        ap (λ (rs : List (List ℕ)). get_or rs k []) is
-        ∙ ap (λ (n : ℕ). get_or (set old link (get_or old link [] ++ reply)) n []) (sym (eqb-true link k e))
-        ∙ get_or-set_same old link (get_or old link [] ++ reply) [] below in
-        omega (arith, ap (λ (l : List ℕ). length l) here, both_few (get_or old link []) reply most more (within link) few)
-    by false e =
-        let other : k ≢ link = λ (same : k ≡ link). true≢false (sym (eq-eqb link k (sym same)) ∙ e) in
-        let there : get_or new k [] ≡ get_or old k [] = ap (λ (rs : List (List ℕ)). get_or rs k []) is ∙ get_or-set_other old link k (get_or old link [] ++ reply) [] other in
-        omega (arith, ap (λ (l : List ℕ). length l) there, within k)
+one_within most more link old new reply within below is few =
+    omega (arith, ap (λ (rs : List (List ℕ)). total rs) is, total_more link old reply below, within, few)
 
 pub wider : (one other : ℕ) (replies : List (List ℕ)) → one ≤ other → AreWithin one replies → AreWithin other replies
-wider one other replies le within link = omega (arith, le, within link)
+wider one other replies le within = omega (arith, le, within)
+
+-- one connection has no more than all
+pub each_within : (most link : ℕ) (replies : List (List ℕ)) → AreWithin most replies → length (get_or replies link []) ≤ most
+each_within most link replies within = omega (arith, within, of_all link replies)
+  where
+    of_all : (link : ℕ) (all : List (List ℕ)) → length (get_or all link []) ≤ total all
+    of_all link [] = omega arith
+    of_all zero (replies ∷ others) = omega arith
+    of_all (suc link) (replies ∷ others) = omega (arith, of_all link others)
+
+-- and a number and a length beside them
+joined_few : (link : ℕ) (all : List (List ℕ)) → length (joined_from link all) ≡ 8 * length all + total all
+joined_few link [] = refl
+joined_few link (replies ∷ others) =
+    let counted : suc (suc (suc (suc (suc (suc (suc (suc (length replies)))))))) ≡ 8 + length replies = omega arith in
+    let front : length (connection_text link replies) ≡ 8 + length replies = counted in
+    omega (arith, length-append (connection_text link replies) (joined_from (suc link) others), front, joined_few (suc link) others)
+
+pub text_within : (most : ℕ) (all : List (List ℕ)) (text : List ℕ) → text ≡ answers_magic ++ joined_from 0 all → AreWithin most all → length text ≤ 4 + 8 * length all + most
+text_within most all text is within =
+    omega (arith, ap (λ (l : List ℕ). length l) is, length-append answers_magic (joined_from 0 all), joined_few 0 all, within)

@@ -9,3 +9,5 @@ pub mod Batch
 pub mod Seen
 pub mod Joined
 pub mod Tallies
+pub mod Alone
+pub mod Readings

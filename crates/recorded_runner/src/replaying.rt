@@ -5,10 +5,13 @@ ghost use Rattle.serve_config.specs.Loaded.{programs_in};
 ghost use Rattle.serve_config.specs.Routing.{all_routes};
 ghost use Rattle.recorded_arrivals.specs.Limits.{IsTooMany};
 ghost use Rattle.recorded_runner.specs.Fates.{decided};
-ghost use Rattle.recorded_runner.specs.ReplayText.{replies_on};
+ghost use Rattle.recorded_runner.specs.Alone.{alone};
+ghost use Rattle.recorded_runner.specs.Readings.{replies_in, replies_to};
+ghost use Rattle.recorded_runner.specs.ReplayText.{replay_text, replies_on};
 ghost use Rattle.recorded_runner.specs.Serving.{AreOwned, AreProgramsOf, IsPlayed};
 
 use crate::deciding::decide_all;
+use crate::laws::tenants_are_isolated;
 use crate::played::Played;
 use crate::serving::serve_all;
 use outside::Gate;
@@ -26,7 +29,7 @@ use wasm_instance::Program;
 ///
 /// The programs are those of the configuration's routes, in order, and the recording is one that was read with its number of tenants. A recording of more than 4,096 items is refused as 77, `TooManyRequests`, before any request runs; the only other error is want of memory.
 ///
-/// Each connection has fewer than 2^32 bytes of replies, so the text tells their length.
+/// The whole text has fewer than 2^32 bytes, and so have the replies of each connection. So the text tells their length, and they can be read back from it. Of each tenant they are, in order, those of the recording without the connections of all others: no tenant's replies depend on what the others ask.
 ///
 /// Each connection's pieces go through a `Front`, in the order of the records. The meters are asked for the requests in the order of their arrival. All requests that are admitted are made before the first turn, each with its body, so all bodies stand in memory at once.
 ///
@@ -45,9 +48,14 @@ pub fn replay<R: Threads + Sync, G: Gate>(
     ensures refused { IfErr result (IsTooMany recording.now) }
     ensures short { IfOk result (λ played. (link : ℕ)
         → length (replies_on config.now.tenants (programs_in programs.now) link (decided config.now.tenants recording.now)) < 2 ^ 32) }
+    ensures fits { IfOk result (λ played. length played.text.items < 2 ^ 32) }
+    ensures isolated { IfOk result (λ played. (tenant : ℕ)
+        → replies_to tenant recording.now played.text.items
+        ≡ replies_in (alone tenant recording.now) (replay_text config.now (programs_in programs.now) (alone tenant recording.now))) }
 {
     items_within_limits();
     routes_are_numbered();
+    tenants_are_isolated();
     let arrived = arrivals_of(alloc, recording)?;
     let owners = owners_of(alloc, recording.records())?;
     let decided = decide_all(alloc, config, owners.as_slice(), arrived)?;

@@ -1,5 +1,5 @@
 //! Serving all items: their requests run by the workers of a batch, and their replies in order.
-ghost use Rattle.std.specs.Prelude.{◌≡◌, ◌∷◌, [], ◌++◌, ◌+◌, ◌^◌, ◌≤◌, ◌<◌, ℕ, List, length, map, IfOk, OnOk};
+ghost use Rattle.std.specs.Prelude.{◌≡◌, ◌∷◌, [], ◌++◌, ◌+◌, ◌*◌, ◌^◌, ◌≤◌, ◌<◌, ℕ, List, length, map, IfOk, OnOk};
 ghost use Rattle.std.specs.List.{AllByRecursion};
 ghost use Rattle.serve_config.specs.Configuration.{Configuration};
 ghost use Rattle.serve_config.specs.Loaded.{programs_in};
@@ -53,10 +53,12 @@ pub(crate) fn serve_all<R: Threads + Sync, G: Gate>(
     requires begun { AllByRecursion (λ (d : DecidedValue). d.link < connections)
         (map decided_seen decided.items) }
     requires few { length decided.items ≤ 4096 }
+    requires links { connections ≤ 1024 }
     ensures written { IfOk result
         (λ played. IsWritten config.now (programs_in programs.now) connections (map decided_seen decided.items) played) }
     ensures short { IfOk result (λ played. (link : ℕ)
         → length (replies_on config.now.tenants (programs_in programs.now) link (map decided_seen decided.items)) < 2 ^ 32) }
+    ensures fits { IfOk result (λ played. length played.text.items < 2 ^ 32) }
 {
     requests_keep_their_verdict();
     // The ranges that each configuration keeps bound the budgets, and so the units.
@@ -121,6 +123,8 @@ fn played(alloc: Global, tally: Tally) -> Result<Played, AllocError>
         → IsTallied config programs done tally.replies.items tally.summary
         → AreWithin most tally.replies.items
         → (link : ℕ) → length (replies_on config.tenants programs link done) ≤ most }
+    ensures fits { (most : ℕ) → AreWithin most tally.replies.items
+        → IfOk result (λ played. length played.text.items ≤ 4 + 8 * length tally.replies.items + most) }
 {
     let text = text_of(alloc, tally.replies.as_slice())?;
     Ok(Played {

@@ -1,6 +1,6 @@
 use Rattle.std.proofs.Common.{map, refl, string_bytes}
-use Rattle.commands.proofs.Clauses.{leaves_bytes, leaves_done, leaves_exactly, leaves_no_server, leaves_read_fault, leaves_refused, leaves_usage, leaves_write_fault}
-use Rattle.commands.proofs.ReplayWalks.{writes_replay}
+use Rattle.commands.proofs.Clauses.{comes_brief, leaves_bytes, leaves_done, leaves_exactly, leaves_no_server, leaves_read_fault, leaves_refused, leaves_usage, leaves_write_fault}
+use Rattle.commands.proofs.ReplayWalks.{writes_apart, writes_replay}
 use Rattle.commands.specs.CommandLine.{command_of}
 use Rattle.commands.proofs.top.run.Goals as goal
 
@@ -56,3 +56,10 @@ returns-clause-replay g c =
     c.carry_out.ensures.ended.1 c.carry_out.ensures.ended.2 done)
     (leaves_bytes g.L.Library.state g.L.Library.gave g.met.L.Library.tells _ (command_of (map string_bytes c.args.words.now)) _ _ c.carry_out.ensures.ended.0 _ _ _ _ _ refl
     c.carry_out.ensures.ended.1 c.carry_out.ensures.ended.2 done)
+
+pub returns-clause-isolated : goal.returns-clause-isolated
+returns-clause-isolated g c = λ done r asks.
+    let short = c.carry_out.ensures.brief done r asks in
+    writes_apart c.tenants_are_isolated.ensures.whole _ (map string_bytes c.args.words.now) r _ _ _ _ asks
+    (comes_brief g.L.Library.state g.L.Library.gave g.met.L.Library.tells _ (command_of (map string_bytes c.args.words.now)) _ _ short.0 refl short.1 short.2 short.3)
+    (returns-clause-replay g c done r asks)

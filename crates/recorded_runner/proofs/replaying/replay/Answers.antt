@@ -10,6 +10,7 @@ use Rattle.recording_format.specs.Following.{IsLegal}
 use Rattle.recording_format.proofs.ConnectionLaws.{begun}
 use Rattle.serve_config.specs.Loaded.{programs_in}
 use Rattle.recorded_runner.specs.Fates.{Decided, decided_behind}
+use Rattle.recorded_runner.specs.Readings.{replies_to}
 use Rattle.recorded_runner.specs.Seen.{decided_seen}
 use Rattle.recorded_runner.specs.Serving.{IsServable}
 use Rattle.recorded_runner.proofs.FateLaws.{all_servable, all_begun, as_many}
@@ -75,3 +76,10 @@ returns-clause-short g c =
     let owners : c.as_slice.result.now ≡ tenants_of rs = c.as_slice.ensures.value ∙ c.in_ok-owners.ensures ∙ ap (λ (these : List Record). tenants_of these) c.records.ensures.same in
     let is = c.in_ok-decided.ensures ∙ ap₂ (λ (os : List ℕ) (items : List Arrived). decided_behind tenants os [] items) owners c.in_ok-arrived.ensures.all in
     short_is c.args.config.now (programs_in c.args.programs.now) rs (map decided_seen c.in_ok-decided.decided.items) is c.in_ok-serve_all.ensures.short
+
+pub returns-clause-isolated : goal.returns-clause-isolated
+returns-clause-isolated g c = λ tenant.
+    let rs = c.args.recording.now in
+    let legal : IsLegal rs = subst (λ (these : List Record). IsLegal these) c.records.ensures.same c.records.ensures.legal in
+    ap (λ (text : List ℕ). replies_to tenant rs text) (returns-clause-played g c).text_is
+    ∙ c.tenants_are_isolated.ensures.texts c.args.config.now (programs_in c.args.programs.now) rs tenant legal (λ link below. returns-clause-short g c link)

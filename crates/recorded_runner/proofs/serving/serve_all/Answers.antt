@@ -3,6 +3,7 @@ use Rattle.std.proofs.lemmas.List.{length-map, length-replicate, length_push, ma
 use Rattle.std.proofs.lemmas.List.Elements.{All-from_recursion}
 use Rattle.std.proofs.lemmas.Iterator.Adapters.{YieldsList-from_vec}
 use Rattle.std.proofs.lemmas.Iterator.Consumers.{YieldsList-turn}
+use Rattle.std.proofs.lemmas.Result.{IfOk-weaker}
 use Rattle.std.specs.List.{AllByRecursion, AllZip}
 use Rattle.sandbox_states.specs.Views.{AnswerView}
 use Rattle.serve_config.specs.Loaded.{programs_in}
@@ -132,3 +133,9 @@ loop-item-preserved g c =
       tallied = subst (λ (ds : List Decided). IsTallied c.args.config.now programs ds c.serve_next.new.tally.replies.items c.serve_next.new.tally.summary) (sym seen) next;
       answered = subst (λ (answers : List AnswerView). AreAnswersFor tenants programs quantum (drop (length (c.loop-item.yielded ++ c.in-Some.item ∷ [])) items) answers) (sym {A = List AnswerView} c.in_ok-serve_next.ensures.left) left.1;
     }
+
+pub returns-clause-fits : goal.returns-clause-fits
+returns-clause-fits g c =
+    IfOk-weaker c.played.result _ _
+    (λ played few. omega (arith, few, c.loop-item.invariant.connected, c.requires.links, c.loop-item.invariant.counted, c.loop-item.invariant.small.requests))
+    (c.played.ensures.fits (length c.loop-item.yielded * 66048) c.loop-item.invariant.short)

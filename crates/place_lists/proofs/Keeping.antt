@@ -4,14 +4,11 @@ use Rattle.std.proofs.lemmas.Bool.Decides.{nat_tests}
 use Rattle.atomic_table.proofs.Lists.{set_again}
 use Rattle.crossbeam_queue.specs.Fifo.{Pushes, Pops, Forks, Learns}
 use Rattle.view_totals.proofs.Sums.{total-push, total-set, term_le}
-use Rattle.place_lists.specs.Keeping.{keeper, times, once, counted_from, maker, EachOnce, took, gave, HasRoom}
-use Rattle.place_lists.specs.Places.{IsPlace}
+use Rattle.place_lists.proofs.Handing.{times-append}
+use Rattle.place_lists.specs.Keeping.{keeper, once, counted_from, maker, EachOnce, took, gave, HasRoom}
+use Rattle.place_lists.specs.Places.{IsPlace, times}
 use Rattle.place_lists.specs.Vacating.{HasLast}
 use Rattle.place_lists.specs.declared.keepers.Keeper.{Keeper}
-
-times-append : (n : ℕ) (xs ys : List ℕ) → times n (xs ++ ys) ≡ times n xs + times n ys
-times-append n [] ys = omega arith
-times-append n (x ∷ xs) ys = omega (arith, times-append n xs ys)
 
 times_here : (n : ℕ) (xs : List ℕ) → times n (n ∷ xs) ≡ 1 + times n xs
 times_here n xs = ap (λ (b : Bool). (if b then 1 else 0) + times n xs) (eq-eqb n n refl)

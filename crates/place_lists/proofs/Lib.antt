@@ -1,2 +1,2 @@
-pub mod Stealing
+pub mod Handing
 pub mod Keeping

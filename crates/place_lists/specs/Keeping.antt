@@ -1,16 +1,11 @@
 -- The rule of the vacant places: what holds of the queue and of what all passes have out, between any two atomic steps.
-use Rattle.std.specs.Prelude.{◌≡◌, ℕ, zero, suc, ◌+◌, ◌<◌, ◌==◌, nat_lt, List, [], ◌∷◌, length, if◌then◌else◌}
+use Rattle.std.specs.Prelude.{◌≡◌, ℕ, zero, suc, ◌+◌, ◌<◌, nat_lt, List, [], ◌∷◌, length, if◌then◌else◌}
 use Rattle.view_totals.specs.Totals.{total}
-use Rattle.place_lists.specs.Places.{IsPlace}
+use Rattle.place_lists.specs.Places.{IsPlace, times}
 use Rattle.place_lists.specs.declared.keepers.Keeper.{Keeper}
 
 abbrev pub keeper : (out : List ℕ) → Keeper
 keeper out = record { out = out }
-
--- how often a number stands in a list
-abbrev pub times : ℕ → List ℕ → ℕ
-times n [] = 0
-times n (x ∷ xs) = (if x == n then 1 else 0) + times n xs
 
 -- once for a place, and not at all for another number
 abbrev pub once : ℕ → ℕ

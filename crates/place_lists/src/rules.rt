@@ -1,29 +1,38 @@
 //! The rules of both lists, and what each step tells its pass.
 
-use crate::keepers::Keeper;
+use crate::keepers::{Hand, Keeper};
 use crossbeam_deque::protocol as deque;
 use crossbeam_queue::protocol as queue;
 
-// Of the inbox: each number is a place of the board. Its passes know nothing.
-pub(crate) struct PlacesAlone;
+// Of the inbox: each number in it is a place of the board, and as often in it as it was pushed and not stolen.
+pub(crate) struct PushedAndStolen;
 
-impl deque::Protocol<u32, ()> for PlacesAlone {
-    ghost use Rattle.place_lists.specs.Places.{ArePlaces};
+impl deque::Protocol<u32, Hand> for PushedAndStolen {
+    ghost use Rattle.place_lists.specs.Handing.{Handed, empty_handed};
 
-    ghost holds = { λ items views. ArePlaces items };
+    ghost holds = { Handed };
 
-    ghost first = { tt };
+    ghost first = { empty_handed };
 
-    ghost guest = { tt };
+    ghost guest = { empty_handed };
 }
 
-// Numbers came into the inbox, or out of it.
-pub(crate) struct Moves;
+// The pass has pushed these numbers.
+pub(crate) struct Pushes;
 
-impl deque::Outcome<u32, ()> for Moves {
-    ghost use Rattle.place_lists.specs.Places.{ArePlaces};
+impl deque::Outcome<u32, Hand> for Pushes {
+    ghost use Rattle.place_lists.specs.Handing.{pushed};
 
-    ghost then = { λ before items after. ArePlaces items };
+    ghost then = { pushed };
+}
+
+// The pass has stolen these numbers, which are places.
+pub(crate) struct Steals;
+
+impl deque::Outcome<u32, Hand> for Steals {
+    ghost use Rattle.place_lists.specs.Handing.{stole};
+
+    ghost then = { stole };
 }
 
 // Of the queue: each place is in it, or out with one pass.

@@ -1,24 +1,43 @@
 //! Places that go through the inbox, and vacant ones that are taken and given back, until there are none and one waits.
 ghost use Rattle.std.specs.Prelude.{◌≡◌, [], ◌∷◌};
+ghost use Rattle.place_lists.specs.Inboxes.{IsPassOf as IsInboxPassOf};
 ghost use Rattle.place_lists.specs.Places.{IsPlace};
 ghost use Rattle.place_lists.specs.Vacating.{IsPassOf, HasLast};
 
-use place_lists::{Inbox, Vacancies, VacancyPass};
+use place_lists::{Inbox, InboxPass, Vacancies, VacancyPass};
 use std::process::Abort;
 use std::sync::Wait;
 use std::test::Fail;
 use std::thread::{Threads, join};
 
+// Pushes a place.
+fn pushes<R: Abort + Wait>(rt: &R, inbox: &Inbox, pass: &mut InboxPass, place: u32)
+    requires own { IsInboxPassOf inbox.now pass.old }
+    requires place { IsPlace place }
+    ensures { IsInboxPassOf inbox.now pass.new }
+{
+    assert!(rt; inbox.push(rt, pass, place).is_ok());
+}
+
+// Steals a number, or finds none.
+fn steals<R: Abort + Wait>(rt: &R, inbox: &Inbox, pass: &mut InboxPass, number: Option<u32>)
+    requires { IsInboxPassOf inbox.now pass.old }
+    ensures { IsInboxPassOf inbox.now pass.new }
+{
+    assert_eq!(rt; inbox.steal(rt, pass), number);
+}
+
 #[test]
 fn an_inbox_hands_out_in_order(rt: HostRuntime) -> Result<(), Fail> {
-    let inbox = Inbox::new(rt.alloc())?;
-    assert!(rt; inbox.push(&rt, 3).is_ok());
-    assert!(rt; inbox.push(&rt, 255).is_ok());
-    assert!(rt; inbox.push(&rt, 3).is_ok());
-    let first = (inbox.steal(&rt), inbox.steal(&rt));
-    assert_eq!(rt; first, (Some(3), Some(255)));
-    let last = (inbox.steal(&rt), inbox.steal(&rt));
-    assert_eq!(rt; last, (Some(3), None));
+    let (inbox, mut pass) = Inbox::new(rt.alloc())?;
+    let mut other = inbox.pass();
+    pushes(&rt, &inbox, &mut pass, 3);
+    pushes(&rt, &inbox, &mut other, 255);
+    pushes(&rt, &inbox, &mut pass, 3);
+    steals(&rt, &inbox, &mut other, Some(3));
+    steals(&rt, &inbox, &mut pass, Some(255));
+    steals(&rt, &inbox, &mut other, Some(3));
+    steals(&rt, &inbox, &mut pass, None);
     Ok(())
 }
 

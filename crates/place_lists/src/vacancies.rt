@@ -95,8 +95,8 @@ impl Vacancies {
         unreachable!()
     }
 
-    /// Takes the place that has been vacant longest, if there is one.
-    pub fn try_take<R: Wait>(&self, rt: &R, pass: &mut VacancyPass) -> Option<u32>
+    // Takes the place that has been vacant longest, if there is one.
+    fn try_take<R: Wait>(&self, rt: &R, pass: &mut VacancyPass) -> Option<u32>
         requires { IsPassOf self.now pass.old }
         ensures { MatchOption result (pass.new ≡ pass.old) (λ place. IsPlace place × (pass.new ≡ with_out pass.old (place ∷ pass.old.out))) }
     {

@@ -4,6 +4,8 @@ use Rattle.sandbox_states.specs.Stands.{StandsFor, AnswersFor}
 use Rattle.sandbox_states.specs.Views.{AdmittedView}
 use Rattle.wasm_meaning.specs.Programs.{Program}
 use Rattle.wasm_meaning.specs.Requests.{Request}
+use Rattle.job_board.specs.declared.words.Kind.{Kind}
+use Rattle.worker_desks.specs.Tasks.{place_of, kind_of, turns_of}
 use Rattle.worker_desks.specs.declared.tasks.Task.{Task}
 use Rattle.worker_desks.specs.declared.tasks.Task.TheVariants.{Waiting, Suspended, Answered}
 
@@ -27,6 +29,16 @@ pub record PostedView : Type 0 where
 
 abbrev pub posted : Request → Task → PostedView
 posted request task = record { request = request; task = task }
+
+-- what it tells its board
+abbrev pub place_in : PostedView → ℕ
+place_in job = place_of job.task
+
+abbrev pub kind_in : PostedView → Kind
+kind_in job = kind_of job.task
+
+abbrev pub turns_in : PostedView → ℕ
+turns_in job = turns_of job.task
 
 -- a job that waits
 abbrev pub waiting_job : Request → (place deadline : ℕ) → PostedView

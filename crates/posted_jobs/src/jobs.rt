@@ -4,8 +4,7 @@ ghost use Rattle.std.specs.Arc.{arc_value};
 ghost use Rattle.job_board.specs.declared.words.Kind.TheVariants.{Answered};
 ghost use Rattle.sandbox_states.specs.Views.{told};
 ghost use Rattle.wasm_meaning.specs.Requests as due;
-ghost use Rattle.worker_desks.specs.Tasks.{kind_of};
-ghost use Rattle.posted_jobs.specs.Posting.{BelongsTo, posted, waiting_job};
+ghost use Rattle.posted_jobs.specs.Posting.{BelongsTo, posted, waiting_job, kind_in};
 
 use crate::requests::KeptRequest;
 use job_board::{Kind, Placed};
@@ -46,15 +45,15 @@ impl Model for PostedJob {
 impl Placed for PostedJob {
     ghost use Rattle.std.specs.Prelude.{◌≡◌};
     ghost use Rattle.std.proofs.Common.{refl};
-    ghost use Rattle.worker_desks.specs.Tasks as task;
+    ghost use Rattle.posted_jobs.specs.Posting.{place_in, kind_in, turns_in};
 
     type Request = KeptRequest;
 
-    ghost place_of = { λ job. task.place_of job.task };
+    ghost place_of = { place_in };
 
-    ghost kind_of = { λ job. task.kind_of job.task };
+    ghost kind_of = { kind_in };
 
-    ghost turns_of = { λ job. task.turns_of job.task };
+    ghost turns_of = { turns_in };
 
     ghost request_of = { λ job. job.request };
 
@@ -123,8 +122,8 @@ impl PostedJob {
     /// There is none exactly where the job is another request's, or is not over.
     pub fn answer_to(self, request: &KeptRequest) -> Option<Verdict>
         ensures answer { IfSome result (λ given. due.verdict request.now ≡ Some (told given)) }
-        ensures own { IfSome result (λ given. (self.request ≡ request.now) × (kind_of self.task ≡ Answered)) }
-        ensures none { IfNone result ((self.request ≢ request.now) ⊎ (kind_of self.task ≢ Answered)) }
+        ensures own { IfSome result (λ given. (self.request ≡ request.now) × (kind_in self ≡ Answered)) }
+        ensures none { IfNone result ((self.request ≢ request.now) ⊎ (kind_in self ≢ Answered)) }
     {
         if !self.request.same(request) {
             return None;

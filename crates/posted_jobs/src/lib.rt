@@ -4,8 +4,10 @@
 //! It stands on `job_board` for what may stand at a place, on `worker_desks` for tasks, on `sandbox_states` and `wasi_calls` for requests and their answers, on `wasm_instance` for programs, and on `wasm_meaning` for what a request means. No call waits for another thread.
 #![tactic(auto)]
 
+mod collects;
 mod jobs;
 mod requests;
 
+pub use collects::{Collected, collect};
 pub use jobs::PostedJob;
 pub use requests::KeptRequest;

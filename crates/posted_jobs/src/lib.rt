@@ -7,7 +7,9 @@
 mod collects;
 mod jobs;
 mod requests;
+mod rounds;
 
 pub use collects::{Collected, collect};
 pub use jobs::PostedJob;
 pub use requests::KeptRequest;
+pub use rounds::next_job;

@@ -3,10 +3,10 @@ ghost use Rattle.std.specs.Prelude.{◌≡◌, ◌≤◌, ◌<◌, false, None, 
 ghost use Rattle.job_board.specs.Boarding.{places_of, IsPassOf};
 ghost use Rattle.worker_desks.specs.Tasks.{place_of, kind_of, turns_of};
 
-use job_board::{Board, BoardPass, Claim, Fill, Kind, Placed, State, Word};
+use job_board::{Board, BoardPass, Fill, Kind, Placed, State, Word};
 use memory_pool::Berth;
 use module_files::program_of;
-use posted_jobs::{Collected, KeptRequest, PostedJob, collect};
+use posted_jobs::{Collected, KeptRequest, PostedJob, collect, next_job};
 use sandbox_states::{Turn, Verdict, run_turn, settle, start};
 use std::alloc::Global;
 use std::process::Abort;
@@ -93,15 +93,17 @@ fn posts<R: Abort>(
     assert_eq!(rt; found, WAITS);
 }
 
-// A worker claims the job, runs it to its end, and puts its answer in its place.
+// A worker finds no job without a berth, and with one it claims this one, runs it to its end, and puts its answer in its place.
 fn works<R: Abort>(rt: &R, alloc: Global, board: &Board<PostedJob>, pass: &mut BoardPass<PostedJob>)
     requires own { IsPassOf board.now pass.old × (pass.old.held ≡ None) }
     requires place { (board.now.terms.fixed ≡ false) × (0 < places_of board.now) }
     ensures { IsPassOf board.now pass.new × (pass.new.held ≡ None) }
 {
-    let Claim::Got(job) = board.claim(pass, 0, WAITS) else {
+    assert!(rt; next_job(board, pass, None).is_none());
+    let Some(job) = next_job(board, pass, Some(1)) else {
         panic!(rt; "it waits");
     };
+    assert_eq!(rt; job.place(), 0);
     let job = turned(alloc, job).expect(rt, "an answer");
     board.put_answered(pass, 0, job);
 }

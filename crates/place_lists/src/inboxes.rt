@@ -14,9 +14,14 @@ use std::sync::Wait;
 /// The places at which requests were put, in the order of pushing, for the workers to begin.
 ///
 /// It is a hint: a place may be in it twice, or no longer have the request for which it was pushed. Who takes one claims it on the board. Contracts see which inbox it is.
-#[derive(Drop)]
 pub struct Inbox {
     injector: Injector<u32, Global, Hand, PushedAndStolen>,
+}
+
+impl Drop for Inbox {
+    fn drop(self) {
+        let Inbox { injector: _ } = self;
+    }
 }
 
 impl Model for Inbox {
@@ -30,9 +35,14 @@ impl Model for Inbox {
 /// A thread's handle on an inbox. It takes no bytes.
 ///
 /// Contracts see which inbox it is for, its number, and what it has pushed and stolen, in order.
-#[derive(Drop)]
 pub struct InboxPass {
     seat: InjectorPass<u32, Hand>,
+}
+
+impl Drop for InboxPass {
+    fn drop(self) {
+        let InboxPass { seat: _ } = self;
+    }
 }
 
 impl Model for InboxPass {

@@ -15,10 +15,15 @@ use std::sync::Wait;
 /// The places of a board of 256 places that no session uses, shared by all threads that have a pass.
 ///
 /// Contracts see which queue it is.
-#[derive(Drop)]
 pub struct Vacancies {
     queue: RuledArrayQueue<u32, Keeper, EachInOneHand>,
     given: EventCount,
+}
+
+impl Drop for Vacancies {
+    fn drop(self) {
+        let Vacancies { queue: _, given: _ } = self;
+    }
 }
 
 impl Model for Vacancies {
@@ -35,9 +40,14 @@ impl Model for Vacancies {
 /// A thread's handle on the vacant places. It takes no bytes.
 ///
 /// Contracts see which queue it is for, its number, and the places that it has out of the queue, the latest first. Each of these is out with this pass alone.
-#[derive(Drop)]
 pub struct VacancyPass {
     seat: Pass<u32, Keeper>,
+}
+
+impl Drop for VacancyPass {
+    fn drop(self) {
+        let VacancyPass { seat: _ } = self;
+    }
 }
 
 impl Model for VacancyPass {

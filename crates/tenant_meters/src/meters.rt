@@ -15,10 +15,15 @@ use std::sync::Wait;
 /// A tenant's meter, shared by all threads that have a pass: a leaky bucket by the definition of `admission`.
 ///
 /// Contracts see which meter it is, and its terms.
-#[derive(Drop)]
 pub struct TenantMeter {
     cell: RuledSeqCell<Charge, Caller, InOneOrder, 7>,
     terms: Terms,
+}
+
+impl Drop for TenantMeter {
+    fn drop(self) {
+        let TenantMeter { cell: _, terms: _ } = self;
+    }
 }
 
 impl Model for TenantMeter {
@@ -32,9 +37,14 @@ impl Model for TenantMeter {
 /// A thread's handle on a tenant's meter. It takes no bytes.
 ///
 /// Contracts see which meter it is for and that one's terms, the history of all calls as far as this pass has seen it, and its own calls. Its type keeps that what was seen is legal, and has just the pass's own calls of those with its number.
-#[derive(Drop)]
 pub struct MeterPass {
     seat: Pass<Charge, Caller>,
+}
+
+impl Drop for MeterPass {
+    fn drop(self) {
+        let MeterPass { seat: _ } = self;
+    }
 }
 
 impl Model for MeterPass {

@@ -141,12 +141,12 @@ def read_back(text):
 def compared(folder, number, case):
     """How many comparisons were made, and how many of them differ: of the whole, and then of each tenant with its replies alone."""
     got = replayed(folder, number, case.config, case.data)
-    compared, failed = 1, differs(case.name, case.wanted, got)
+    made, failed = 1, differs(case.name, case.wanted, got)
     for tenant in case.tenants() if got[0] == 0 else ():
         status, text, _ = replayed(folder, "%d-of-%d" % (number, tenant), case.config, spelt(alone(case.records, tenant)))
         own = [replies for owner, replies in zip(case.owners, read_back(got[1])) if owner == tenant]
-        compared, failed = compared + 1, failed + differs("%s, tenant %d alone" % (case.name, tenant), (0, own), (status, read_back(text)))
-    return compared, failed
+        made, failed = made + 1, failed + differs("%s, tenant %d alone" % (case.name, tenant), (0, own), (status, read_back(text)))
+    return made, failed
 
 
 def compare(cases):

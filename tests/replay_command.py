@@ -136,10 +136,10 @@ def cases():
         yield name, CONFIG, one(stream), 0, answers(text), note(requests, admitted or 0, admitted or 0, 0)
     late = [recordings.begin(0, 0, 0), recordings.begin(0, 1, 0), recordings.piece(1, 1, b"GET /nil HTTP/1.1\r\nHost: x\r\n\r\n"),
             recordings.piece(2, 0, TWO), recordings.close(3, 0)]  # fmt: skip
+    yield "the first connection last", CONFIG, recordings.recording(late), 0, answers(TWO_ANSWERS[12:], NIL), note(3, 3, 3, 70)
     flood = [recordings.begin(0, 0, 1), recordings.begin(0, 1, 0), recordings.piece(0, 0, 100 * b"GET /nil HTTP/1.1\r\nHost: x\r\n\r\n"),
              recordings.piece(0, 1, TWO)]  # fmt: skip
     yield "a neighbour's flood", TWO_TENANTS, recordings.recording(flood), 0, answers(100 * SPENT, TWO_ANSWERS[12:]), note(102, 2, 2, 70)
-    yield "the first connection last", CONFIG, recordings.recording(late), 0, answers(TWO_ANSWERS[12:], NIL), note(3, 3, 3, 70)
 
 
 def record_of(words):

@@ -12,6 +12,7 @@ use std::alloc::Global;
 use std::process::Abort;
 use std::sync::Arc;
 use std::test::Fail;
+use wasm_instance::Program;
 use worker_desks::Task;
 
 // `_start` is a `nop`.
@@ -26,32 +27,45 @@ const VACANT: Word = Word {
     state: State::Vacant,
 };
 
-const WAITS: Word = Word {
+pub(crate) const WAITS: Word = Word {
     turns: 0,
     state: State::Waiting,
 };
 
-// A request to run the `nop`, with a body of one byte and a budget of 10 units.
-fn request(alloc: Global, byte: u8) -> Option<Arc<KeptRequest>> {
-    let program = Arc::new(alloc, program_of(alloc, &NOP, 1).ok()?).ok()?;
+// A request to this program, with a body of one byte and so many units of budget.
+pub(crate) fn request_to(
+    alloc: Global,
+    program: &Arc<Program>,
+    byte: u8,
+    budget: u64,
+) -> Option<Arc<KeptRequest>>
+    requires { budget ≤ 100 }
+{
+    let program = Arc::try_clone(program).ok()?;
     let mut body = Vec::new(alloc);
     if body.push(byte).is_err() {
         drop(program);
         return None;
     }
-    Arc::new(alloc, KeptRequest::new(program, body, 10)).ok()
+    Arc::new(alloc, KeptRequest::new(program, body, budget)).ok()
 }
 
-// A job that waits at place 0.
-fn waiting(alloc: Global, request: &Arc<KeptRequest>) -> Option<PostedJob>
-    ensures { IfSome result (λ job. (place_of job.task ≡ 0) × (kind_of job.task ≡ Kind.Waiting) × (turns_of job.task ≡ 0)) }
+// A request to run the `nop`, with a budget of 10 units.
+fn request(alloc: Global, byte: u8) -> Option<Arc<KeptRequest>> {
+    let program = Arc::new(alloc, program_of(alloc, &NOP, 1).ok()?).ok()?;
+    request_to(alloc, &program, byte, 10)
+}
+
+// A job that waits at this place.
+pub(crate) fn waiting(alloc: Global, request: &Arc<KeptRequest>, place: u32) -> Option<PostedJob>
+    ensures { IfSome result (λ job. (place_of job.task ≡ place) × (kind_of job.task ≡ Kind.Waiting) × (turns_of job.task ≡ 0)) }
 {
     let theirs = Arc::try_clone(request).ok()?;
-    PostedJob::new(alloc, theirs, 0, 7).ok()
+    PostedJob::new(alloc, theirs, place, 7).ok()
 }
 
 // The job after its one turn, on a new berth.
-fn turned(alloc: Global, job: PostedJob) -> Option<PostedJob>
+pub(crate) fn turned(alloc: Global, job: PostedJob) -> Option<PostedJob>
     ensures { IfSome result (λ over. (place_of over.task ≡ place_of job.task) × (kind_of over.task ≡ Kind.Answered) × (turns_of job.task ≤ turns_of over.task)) }
 {
     let pages = job.pages();
@@ -84,9 +98,9 @@ fn posts<R: Abort>(
     ensures { IsPassOf board.now pass.new × (pass.new.held ≡ None) }
 {
     assert_eq!(rt; board.look(pass, 0), VACANT);
-    let job = waiting(alloc, request).expect(rt, "memory");
+    let job = waiting(alloc, request, 0).expect(rt, "memory");
     assert!(rt; matches!(board.fill(pass, 0, job), Fill::Filled));
-    let again = waiting(alloc, request).expect(rt, "memory");
+    let again = waiting(alloc, request, 0).expect(rt, "memory");
     let Fill::Other(_, found) = board.fill(pass, 0, again) else {
         panic!(rt; "the place is in use");
     };

@@ -4,6 +4,8 @@
 #![tactic(auto)]
 
 #[cfg(test)]
+mod exchanges;
+#[cfg(test)]
 mod jobs;
 #[cfg(test)]
 mod meters;

@@ -3,7 +3,7 @@ ghost use Rattle.std.specs.Prelude.{◌≡◌, ◌<◌, ◌≤◌, false, None};
 ghost use Rattle.job_board.specs.Boarding.{places_of, IsPassOf};
 ghost use Rattle.place_lists.specs.Inboxes.{IsPassOf as IsInboxPassOf};
 ghost use Rattle.place_lists.specs.Places.{IsPlace};
-ghost use Rattle.server_tests.specs.Exchanging.{IsSeatOf, IsHandOf};
+ghost use Rattle.server_tests.specs.Exchanging.{IsSeatOf, IsPurseOf};
 
 use crate::jobs::{WAITS, request_to, turned, waiting};
 use admission::Admission;
@@ -68,9 +68,9 @@ fn posts<R: Abort + Wait>(
     request: &Arc<KeptRequest>,
     place: u32,
 )
-    requires own { IsSeatOf shared.now seat.old }
+    requires own { IsSeatOf shared.now.board shared.now.inbox seat.old.board seat.old.inbox }
     requires place { IsPlace place }
-    ensures { IsSeatOf shared.now seat.new }
+    ensures { IsSeatOf shared.now.board shared.now.inbox seat.new.board seat.new.inbox }
 {
     let job = waiting(alloc, request, place).expect(rt, "memory");
     assert!(rt; matches!(shared.board.fill(&mut seat.board, place, job), Fill::Filled));
@@ -117,8 +117,8 @@ fn exchanges<R: Abort + Wait>(
     program: &Arc<Program>,
     byte: u8,
 )
-    requires { IsHandOf shared.now hand.old }
-    ensures { IsHandOf shared.now hand.new }
+    requires { IsSeatOf shared.now.board shared.now.inbox hand.old.seat.board hand.old.seat.inbox × IsPurseOf shared.now.meter shared.now.vacancies hand.old.meter hand.old.vacancy }
+    ensures { IsSeatOf shared.now.board shared.now.inbox hand.new.seat.board hand.new.seat.inbox × IsPurseOf shared.now.meter shared.now.vacancies hand.new.meter hand.new.vacancy }
 {
     let answer = shared.meter.ask(rt, &mut hand.meter, 0, 1);
     assert!(rt; matches!(answer, Admission::Entered));
@@ -139,7 +139,7 @@ fn exchanges_all<R: Abort + Wait>(
     program: &Arc<Program>,
     times: u32,
 )
-    requires { IsHandOf shared.now hand }
+    requires { IsSeatOf shared.now.board shared.now.inbox hand.seat.board hand.seat.inbox × IsPurseOf shared.now.meter shared.now.vacancies hand.meter hand.vacancy }
 {
     for round in 0..times {
         exchanges(rt, alloc, shared, &mut hand, program, (round % 256) as u8);
@@ -165,8 +165,8 @@ fn stolen<R: Wait>(rt: &R, inbox: &Inbox, pass: &mut InboxPass) -> u32
 
 // The worker takes the job of a place that was pushed, runs it to its end, and puts its answer in its place.
 fn serves<R: Abort + Wait>(rt: &R, alloc: Global, shared: &Shared, seat: &mut Seat)
-    requires { IsSeatOf shared.now seat.old }
-    ensures { IsSeatOf shared.now seat.new }
+    requires { IsSeatOf shared.now.board shared.now.inbox seat.old.board seat.old.inbox }
+    ensures { IsSeatOf shared.now.board shared.now.inbox seat.new.board seat.new.inbox }
 {
     let place = stolen(rt, &shared.inbox, &mut seat.inbox);
     let Claim::Got(job) = shared.board.claim(&mut seat.board, place, WAITS) else {
@@ -178,7 +178,7 @@ fn serves<R: Abort + Wait>(rt: &R, alloc: Global, shared: &Shared, seat: &mut Se
 
 // The worker's thread.
 fn serves_all<R: Abort + Wait>(rt: &R, alloc: Global, shared: &Shared, mut seat: Seat, times: u32)
-    requires { IsSeatOf shared.now seat }
+    requires { IsSeatOf shared.now.board shared.now.inbox seat.board seat.inbox }
 {
     for round in 0..times {
         let _round = round;
@@ -195,7 +195,7 @@ fn exchange_by_two<R: Threads + Abort + Wait + Sync>(
     program: &Arc<Program>,
     times: u32,
 )
-    requires own { IsHandOf shared.now hand }
+    requires own { IsSeatOf shared.now.board shared.now.inbox hand.seat.board hand.seat.inbox × IsPurseOf shared.now.meter shared.now.vacancies hand.meter hand.vacancy }
     requires parts { hand.seat.board.parts ≡ 65536 }
 {
     let seat = Seat {
@@ -205,10 +205,10 @@ fn exchange_by_two<R: Threads + Abort + Wait + Sync>(
     join(
         rt,
         move || -> ()
-            requires { IsHandOf shared.now hand }
+            requires { IsSeatOf shared.now.board shared.now.inbox hand.seat.board hand.seat.inbox × IsPurseOf shared.now.meter shared.now.vacancies hand.meter hand.vacancy }
         { exchanges_all(rt, alloc, shared, hand, program, times) },
         move || -> ()
-            requires { IsSeatOf shared.now seat }
+            requires { IsSeatOf shared.now.board shared.now.inbox seat.board seat.inbox }
         { serves_all(rt, alloc, shared, seat, times) },
     );
 }
@@ -216,7 +216,7 @@ fn exchange_by_two<R: Threads + Abort + Wait + Sync>(
 // What two threads share, where the one tenant may enter so many requests of one unit, and a session's passes.
 fn opened<R: Abort + Wait>(rt: &R, alloc: Global, capacity: u64) -> (Shared, Hand)
     requires { capacity ≤ 1000 }
-    ensures own { IsHandOf result.0 result.1 }
+    ensures own { IsSeatOf result.0.board result.0.inbox result.1.seat.board result.1.seat.inbox × IsPurseOf result.0.meter result.0.vacancies result.1.meter result.1.vacancy }
     ensures parts { result.1.seat.board.parts ≡ 65536 }
 {
     let terms = Terms { capacity, rate: 0 };

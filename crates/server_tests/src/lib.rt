@@ -11,3 +11,5 @@ mod jobs;
 mod meters;
 #[cfg(test)]
 mod places;
+#[cfg(test)]
+mod shops;

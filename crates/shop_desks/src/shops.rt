@@ -19,13 +19,13 @@ use worker_desks::Settings;
 ///
 /// Contracts see which objects these are. The type keeps that the board has 256 places and was made vacant, so that each number of the inbox and of the vacant places is one of its places.
 pub struct Shop {
-    board: Board<PostedJob>,
-    pool: Pool,
-    inbox: Inbox,
+    pub(crate) board: Board<PostedJob>,
+    pub(crate) pool: Pool,
+    pub(crate) inbox: Inbox,
     vacancies: Vacancies,
     meters: Meters,
-    quantum: u64,
-    policy: Policy,
+    pub(crate) quantum: u64,
+    pub(crate) policy: Policy,
 }
 
 impl Drop for Shop {

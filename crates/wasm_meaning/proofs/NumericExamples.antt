@@ -48,6 +48,12 @@ wrapped = refl
 extended : ran (ConstI32 4294967295 ∷ Unary 0xAC ∷ ConstI32 4294967295 ∷ Unary 0xAD ∷ []) ≡ line Fell (Int64 4294967295 ∷ Int64 18446744073709551615 ∷ []) (each_paid 4)
 extended = refl
 
+-- i32.extend8_s, i32.extend16_s and i64.extend32_s: what stands above the low bits counts for nothing
+sign_of_low_bits
+    : ran (ConstI32 128 ∷ Unary 0xC0 ∷ ConstI32 98303 ∷ Unary 0xC1 ∷ ConstI64 6442450944 ∷ Unary 0xC4 ∷ [])
+    ≡ line Fell (Int64 18446744071562067968 ∷ Int32 32767 ∷ Int32 4294967168 ∷ []) (each_paid 6)
+sign_of_low_bits = refl
+
 -- an operand is missing, or of another type
 missing : ran (ConstI32 1 ∷ Binary 0x6A ∷ []) ≡ line Stuck (Int32 1 ∷ []) (each_paid 2)
 missing = refl

@@ -1,6 +1,6 @@
--- What the integer operators compute, as whole-number arithmetic (WebAssembly Core 1.0, section 4.3.2).
+-- What the integer operators compute, as whole-number arithmetic (WebAssembly Core 1.0, section 4.3.2; for the sign extensions Core 2.0, the same section).
 use Rattle.std.specs.Prelude.{◌≡◌, ℕ, ◌+◌, ◌-◌, ◌*◌, ◌/◌, ◌%◌, ◌^◌, ◌==◌, ◌&&◌, Bool, not, nat_lt, nat_le, pos, neg_ℤ, Option, Some, IfSome, option_map, Result, Ok, Err, bit_and, bit_or, bit_xor, count_ones, int_div, int_rem, int_lt, int_le, if◌then◌else◌}
-use Rattle.std.specs.Int.{from_bool, int_shr, leading_zeros, trailing_zeros}
+use Rattle.std.specs.Int.{Width, w8, w16, w32, cast_signed, from_bool, int_shr, leading_zeros, trailing_zeros}
 use Rattle.wasm_ops.specs.declared.types.ValType.{ValType}
 use Rattle.wasm_ops.specs.declared.types.ValType.TheVariants.{I32, I64}
 use Rattle.wasm_ops.specs.declared.traps.Trap.{Trap}
@@ -9,10 +9,12 @@ use Rattle.wasm_ops.specs.declared.operations.Relation.{Relation}
 use Rattle.wasm_ops.specs.declared.operations.Relation.TheVariants.{Eq, Ne, LtS, LtU, GtS, GtU, LeS, LeU, GeS, GeU}
 use Rattle.wasm_ops.specs.declared.operations.BitCount.{BitCount}
 use Rattle.wasm_ops.specs.declared.operations.BitCount.TheVariants.{Clz, Ctz, Popcnt}
+use Rattle.wasm_ops.specs.declared.operations.SignExtension.{SignExtension}
+use Rattle.wasm_ops.specs.declared.operations.SignExtension.TheVariants.{Extend8S, Extend16S, Extend32S}
 use Rattle.wasm_ops.specs.declared.operations.Arithmetic.{Arithmetic}
 use Rattle.wasm_ops.specs.declared.operations.Arithmetic.TheVariants.{Add, Sub, Mul, DivS, DivU, RemS, RemU, And, Or, Xor, Shl, ShrS, ShrU, Rotl, Rotr}
 use Rattle.wasm_ops.specs.declared.operations.Operation.{Operation}
-use Rattle.wasm_ops.specs.declared.operations.Operation.TheVariants.{Eqz, Compare, Count, Compute, Wrap, ExtendS, ExtendU}
+use Rattle.wasm_ops.specs.declared.operations.Operation.TheVariants.{Eqz, Compare, Count, Extend, Compute, Wrap, ExtendS, ExtendU}
 use Rattle.wasm_ops.specs.Operations.{operation_of, operand_of, result_of}
 use Rattle.wasm_ops.specs.Values.{bits_of, width_of, modulus, signed, unsigned, IsOfType}
 
@@ -34,6 +36,21 @@ abbrev pub bit_count : ValType → BitCount → ℕ → ℕ
 bit_count t Clz a = leading_zeros (width_of t) a
 bit_count t Ctz a = trailing_zeros (width_of t) a
 bit_count t Popcnt a = count_ones a
+
+-- how many low bits are read, and the same as the width of a machine word
+abbrev pub low_bits_of : SignExtension → ℕ
+low_bits_of Extend8S = 8
+low_bits_of Extend16S = 16
+low_bits_of Extend32S = 32
+
+abbrev pub low_width_of : SignExtension → Width
+low_width_of Extend8S = w8
+low_width_of Extend16S = w16
+low_width_of Extend32S = w32
+
+-- the low bits read in two's complement, and the value of the type that is read so
+abbrev pub sign_extended : ValType → SignExtension → ℕ → ℕ
+sign_extended t extension a = unsigned t (cast_signed (low_width_of extension) (a % 2 ^ low_bits_of extension))
 
 -- the quotient and the remainder, whose divisor is not 0; a signed quotient rounds toward 0, and its remainder has the dividend's sign
 abbrev pub div_s : ValType → ℕ → ℕ → Result ℕ Trap
@@ -81,6 +98,7 @@ compute t Rotr a b = Ok (rotated_right t a (b % bits_of t))
 abbrev pub one_operand : Operation → ℕ → ℕ
 one_operand (Eqz _) a = from_bool (a == 0)
 one_operand (Count t count) a = bit_count t count a
+one_operand (Extend t extension) a = sign_extended t extension a
 one_operand Wrap a = a % modulus I32
 one_operand ExtendS a = unsigned I64 (signed I32 a)
 one_operand ExtendU a = a
@@ -93,6 +111,7 @@ two_operands (Compare t relation) a b = Ok (from_bool (holds t relation a b))
 two_operands (Compute t arithmetic) a b = compute t arithmetic a b
 two_operands (Eqz _) _ _ = Ok 0
 two_operands (Count _ _) _ _ = Ok 0
+two_operands (Extend _ _) _ _ = Ok 0
 two_operands Wrap _ _ = Ok 0
 two_operands ExtendS _ _ = Ok 0
 two_operands ExtendU _ _ = Ok 0

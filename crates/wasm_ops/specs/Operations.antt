@@ -1,12 +1,14 @@
--- What each integer operator does, from its byte, and which types it takes and gives (WebAssembly Core 1.0, sections 2.4.1, 3.3.1 and 5.4.5).
+-- What each integer operator does, from its byte, and which types it takes and gives (WebAssembly Core 1.0, sections 2.4.1, 3.3.1 and 5.4.5;
+-- for the sign extensions Core 2.0, sections 2.4.1, 3.3.1 and 5.4.8).
 use Rattle.std.specs.Prelude.{◌≡◌, ℕ, ◌+◌, Bool, true, false, ◌==◌, nat_lt, if◌then◌else◌, List, [], ◌∷◌, ◌++◌, Option, Some, None, option_map}
 use Rattle.wasm_ops.specs.declared.types.ValType.{ValType}
 use Rattle.wasm_ops.specs.declared.types.ValType.TheVariants.{I32, I64}
 use Rattle.wasm_ops.specs.declared.operations.Relation.TheVariants.{Eq, Ne, LtS, LtU, GtS, GtU, LeS, LeU, GeS, GeU}
 use Rattle.wasm_ops.specs.declared.operations.BitCount.TheVariants.{Clz, Ctz, Popcnt}
+use Rattle.wasm_ops.specs.declared.operations.SignExtension.TheVariants.{Extend8S, Extend16S, Extend32S}
 use Rattle.wasm_ops.specs.declared.operations.Arithmetic.TheVariants.{Add, Sub, Mul, DivS, DivU, RemS, RemU, And, Or, Xor, Shl, ShrS, ShrU, Rotl, Rotr}
 use Rattle.wasm_ops.specs.declared.operations.Operation.{Operation}
-use Rattle.wasm_ops.specs.declared.operations.Operation.TheVariants.{Eqz, Compare, Count, Compute, Wrap, ExtendS, ExtendU}
+use Rattle.wasm_ops.specs.declared.operations.Operation.TheVariants.{Eqz, Compare, Count, Extend, Compute, Wrap, ExtendS, ExtendU}
 
 -- The one table of the integer operators, in the standard's order. Which bytes they are, how many operands they take, and of which types, follows from it.
 
@@ -44,8 +46,14 @@ i32_computations = rows_from 0x67 (computations I32)
 abbrev pub i64_computations : Rows
 i64_computations = rows_from 0x79 (computations I64)
 
+-- the operations that widen an integer's low bits with their sign
+abbrev pub sign_extensions : List Operation
+sign_extensions =
+    Extend I32 Extend8S ∷ Extend I32 Extend16S ∷ Extend I64 Extend8S ∷ Extend I64 Extend16S ∷ Extend I64 Extend32S ∷ []
+
+-- between the two types, and within one
 abbrev pub conversions : Rows
-conversions = (0xA7, Wrap) ∷ (0xAC, ExtendS) ∷ (0xAD, ExtendU) ∷ []
+conversions = (0xA7, Wrap) ∷ (0xAC, ExtendS) ∷ (0xAD, ExtendU) ∷ rows_from 0xC0 sign_extensions
 
 abbrev pub all_rows : Rows
 all_rows = i32_comparisons ++ i64_comparisons ++ i32_computations ++ i64_computations ++ conversions
@@ -68,6 +76,7 @@ operation_of byte =
 abbrev pub takes_one : Operation → Bool
 takes_one (Eqz _) = true
 takes_one (Count _ _) = true
+takes_one (Extend _ _) = true
 takes_one (Compare _ _) = false
 takes_one (Compute _ _) = false
 takes_one Wrap = true
@@ -85,6 +94,7 @@ IsOfTwo byte = option_map takes_one (operation_of byte) ≡ Some false
 abbrev pub operand_of : Operation → ValType
 operand_of (Eqz t) = t
 operand_of (Count t _) = t
+operand_of (Extend t _) = t
 operand_of (Compare t _) = t
 operand_of (Compute t _) = t
 operand_of Wrap = I64
@@ -95,6 +105,7 @@ operand_of ExtendU = I32
 abbrev pub result_of : Operation → ValType
 result_of (Eqz _) = I32
 result_of (Count t _) = t
+result_of (Extend t _) = t
 result_of (Compare _ _) = I32
 result_of (Compute t _) = t
 result_of Wrap = I32

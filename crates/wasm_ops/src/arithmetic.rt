@@ -1,9 +1,9 @@
-//! The integer operators on numbers (WebAssembly Core 1.0, section 4.3.2).
+//! The integer operators on numbers (WebAssembly Core 1.0, section 4.3.2; for the sign extensions Core 2.0, the same section).
 ghost use Rattle.std.specs.Prelude.{◌≡◌, ◌↔◌, ◌⊎◌, IfOk, IfErr, Err, Some};
 ghost use Rattle.wasm_ops.specs.Operations.{IsOfOne, IsOfTwo, operation_of};
 ghost use Rattle.wasm_ops.specs.Arithmetic.{IsDivision, IsOperand, IsResult, Overflows, binary_result, unary_result};
 
-use crate::{Arithmetic, BitCount, IntOp, Relation, Trap};
+use crate::{Arithmetic, BitCount, IntOp, Relation, SignExtension, Trap};
 
 /// What an operator of one operand gives for a value of its type. It never traps.
 #[inline(always)]
@@ -24,6 +24,11 @@ pub fn apply_unary(op: IntOp, a: u64) -> u64
         0xA7 => a % 0x1_0000_0000,
         0xAC => i64::from((a as u32).cast_signed()).cast_unsigned(),
         0xAD => a,
+        0xC0 => u64::from(SignExtension::Extend8S.of_i32(a as u32)),
+        0xC1 => u64::from(SignExtension::Extend16S.of_i32(a as u32)),
+        0xC2 => SignExtension::Extend8S.of_i64(a),
+        0xC3 => SignExtension::Extend16S.of_i64(a),
+        0xC4 => SignExtension::Extend32S.of_i64(a),
         _ => unreachable!(),
     }
 }

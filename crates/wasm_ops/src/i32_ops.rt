@@ -1,9 +1,9 @@
-//! The operators of type i32 on machine words (WebAssembly Core 1.0, section 4.3.2).
+//! The operators of type i32 on machine words (WebAssembly Core 1.0, section 4.3.2; for the sign extensions Core 2.0, the same section).
 ghost use Rattle.std.specs.Prelude.{◌≡◌, ◌%◌};
 ghost use Rattle.wasm_ops.specs.declared.types.ValType.TheVariants.{I32};
-ghost use Rattle.wasm_ops.specs.Arithmetic.{bit_count, compute, div_s, div_u, holds, rem_s, rem_u, rotated_left, rotated_right};
+ghost use Rattle.wasm_ops.specs.Arithmetic.{bit_count, compute, div_s, div_u, holds, rem_s, rem_u, rotated_left, rotated_right, sign_extended};
 
-use crate::{Arithmetic, BitCount, Relation, Trap};
+use crate::{Arithmetic, BitCount, Relation, SignExtension, Trap};
 
 impl Relation {
     /// Whether it holds between two i32.
@@ -36,6 +36,26 @@ impl BitCount {
             BitCount::Clz => a.leading_zeros(),
             BitCount::Ctz => a.trailing_zeros(),
             BitCount::Popcnt => a.count_ones(),
+        }
+    }
+}
+
+impl SignExtension {
+    /// The low bits of an i32 with their sign.
+    #[inline(always)]
+    pub(crate) fn of_i32(self, a: u32) -> u32
+        ensures { result ≡ sign_extended I32 self a }
+    {
+        match self {
+            SignExtension::Extend8S => {
+                let low = (a % 0x100) as u8;
+                i32::from(low.cast_signed()).cast_unsigned()
+            }
+            SignExtension::Extend16S => {
+                let low = (a % 0x1_0000) as u16;
+                i32::from(low.cast_signed()).cast_unsigned()
+            }
+            SignExtension::Extend32S => a,
         }
     }
 }

@@ -1,9 +1,9 @@
-//! The operators of type i64 on machine words (WebAssembly Core 1.0, section 4.3.2).
+//! The operators of type i64 on machine words (WebAssembly Core 1.0, section 4.3.2; for the sign extensions Core 2.0, the same section).
 ghost use Rattle.std.specs.Prelude.{◌≡◌, ◌%◌};
 ghost use Rattle.wasm_ops.specs.declared.types.ValType.TheVariants.{I64};
-ghost use Rattle.wasm_ops.specs.Arithmetic.{bit_count, compute, div_s, div_u, holds, rem_s, rem_u, rotated_left, rotated_right};
+ghost use Rattle.wasm_ops.specs.Arithmetic.{bit_count, compute, div_s, div_u, holds, rem_s, rem_u, rotated_left, rotated_right, sign_extended};
 
-use crate::{Arithmetic, BitCount, Relation, Trap};
+use crate::{Arithmetic, BitCount, Relation, SignExtension, Trap};
 
 impl Relation {
     /// Whether it holds between two i64.
@@ -36,6 +36,29 @@ impl BitCount {
             BitCount::Clz => a.leading_zeros(),
             BitCount::Ctz => a.trailing_zeros(),
             BitCount::Popcnt => a.count_ones(),
+        }
+    }
+}
+
+impl SignExtension {
+    /// The low bits of an i64 with their sign.
+    #[inline(always)]
+    pub(crate) fn of_i64(self, a: u64) -> u64
+        ensures { result ≡ sign_extended I64 self a }
+    {
+        match self {
+            SignExtension::Extend8S => {
+                let low = (a % 0x100) as u8;
+                i64::from(low.cast_signed()).cast_unsigned()
+            }
+            SignExtension::Extend16S => {
+                let low = (a % 0x1_0000) as u16;
+                i64::from(low.cast_signed()).cast_unsigned()
+            }
+            SignExtension::Extend32S => {
+                let low = (a % 0x1_0000_0000) as u32;
+                i64::from(low.cast_signed()).cast_unsigned()
+            }
         }
     }
 }

@@ -1,6 +1,6 @@
 //! WebAssembly's types, operators, modules and numbers, as every layer above speaks of them.
 //!
-//! The types are those of WebAssembly Core 1.0, chapter 2, without floating point; `specs/Sequence.antt` has the nested body whose flat form a `Body` holds.
+//! The types are those of WebAssembly Core 1.0, chapter 2, without floating point and with the sign extensions of Core 2.0; `specs/Sequence.antt` has the nested body whose flat form a `Body` holds.
 //! The integer operators compute what section 4.3.2 says, on machine words where `specs/Arithmetic.antt` has whole numbers.
 //! Numbers are read from bytes by a `Cursor`, exactly where the bytes spell one (section 5.2).
 //! It stands on nothing but std.
@@ -34,7 +34,7 @@ pub use modules::{
 };
 pub use names::Name;
 pub use numbers::{LebFault, Sign};
-pub use operations::{Arithmetic, BitCount, Operation, Relation};
+pub use operations::{Arithmetic, BitCount, Operation, Relation, SignExtension};
 pub use operators::Op;
 pub use traps::Trap;
 pub use types::{Access, FuncType, Limits, ValType};

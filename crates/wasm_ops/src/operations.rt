@@ -1,4 +1,5 @@
 //! What each integer operator does, and which types it takes and gives (WebAssembly Core 1.0, sections 2.4.1 and 3.3.1).
+//! The sign extensions are of Core 2.0, in the same sections.
 ghost use Rattle.std.specs.Prelude.{◌≡◌, Some};
 ghost use Rattle.wasm_ops.specs.Operations.{i32_comparisons, i64_comparisons, i32_computations, i64_computations, conversions, look_up, operation_of, takes_one, operand_of, result_of};
 
@@ -51,6 +52,21 @@ pub enum BitCount {
 
     /// The ones.
     Popcnt,
+}
+
+/// The low bits of an integer, widened again to the integer's type with their sign (`extendN_s` of Core 2.0, section 2.4.1).
+///
+/// The bits above them count for nothing.
+#[derive(Clone, Copy, Debug)]
+pub enum SignExtension {
+    /// The low 8 bits.
+    Extend8S,
+
+    /// The low 16 bits.
+    Extend16S,
+
+    /// The low 32 bits. No operator does it on an i32, whose bits these all are.
+    Extend32S,
 }
 
 /// An operation that makes an integer of two of its type, or traps (`ibinop` of the standard).
@@ -113,6 +129,9 @@ pub enum Operation {
     /// How many bits of a kind the operand has.
     Count(ValType, BitCount),
 
+    /// The operand's low bits with their sign.
+    Extend(ValType, SignExtension),
+
     /// Whether a relation holds between the two operands.
     Compare(ValType, Relation),
 
@@ -137,6 +156,7 @@ impl Operation {
         match self {
             Operation::Eqz(_)
             | Operation::Count(_, _)
+            | Operation::Extend(_, _)
             | Operation::Wrap
             | Operation::ExtendS
             | Operation::ExtendU => true,
@@ -151,6 +171,7 @@ impl Operation {
         match self {
             Operation::Eqz(value)
             | Operation::Count(value, _)
+            | Operation::Extend(value, _)
             | Operation::Compare(value, _)
             | Operation::Compute(value, _) => value,
             Operation::Wrap => ValType::I64,
@@ -164,13 +185,15 @@ impl Operation {
     {
         match self {
             Operation::Eqz(_) | Operation::Compare(_, _) | Operation::Wrap => ValType::I32,
-            Operation::Count(value, _) | Operation::Compute(value, _) => value,
+            Operation::Count(value, _)
+            | Operation::Extend(value, _)
+            | Operation::Compute(value, _) => value,
             Operation::ExtendS | Operation::ExtendU => ValType::I64,
         }
     }
 }
 
-/// What the operator with this byte does, if the byte is that of an integer operator: one row a byte, in the standard's order (section 5.4.5).
+/// What the operator with this byte does, if the byte is that of an integer operator: one row a byte, in the standard's order (Core 2.0, section 5.4.8).
 pub(crate) fn operation_of(byte: u8) -> Option<Operation>
     ensures { result ≡ operation_of byte }
 {
@@ -288,6 +311,11 @@ fn conversion(byte: u8) -> Option<Operation>
         0xA7 => Operation::Wrap,
         0xAC => Operation::ExtendS,
         0xAD => Operation::ExtendU,
+        0xC0 => Operation::Extend(ValType::I32, SignExtension::Extend8S),
+        0xC1 => Operation::Extend(ValType::I32, SignExtension::Extend16S),
+        0xC2 => Operation::Extend(ValType::I64, SignExtension::Extend8S),
+        0xC3 => Operation::Extend(ValType::I64, SignExtension::Extend16S),
+        0xC4 => Operation::Extend(ValType::I64, SignExtension::Extend32S),
         _ => return None,
     };
     Some(operation)

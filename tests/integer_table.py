@@ -1,5 +1,5 @@
 #!/usr/bin/env python3
-"""The integer operators of WebAssembly Core 1.0, section 4.3.2, at boundary operands.
+"""The integer operators of WebAssembly Core 1.0, section 4.3.2, and the sign extensions of Core 2.0, at boundary operands.
 
     integer_table.py [check|make]      compares crates/integer_table/stdout with the table, or writes it (tests/lib/tables.py)
 
@@ -9,7 +9,7 @@ What the table has, `tests/lib/integers.py` computes from the standard.
 import sys
 
 from lib import tables
-from lib.integers import operands, operators
+from lib.integers import operands, operators, single_operands
 
 # Single rows which a reader can check by hand: the operator's byte, its operands, and what it gives. The computation above is held to them.
 BY_HAND = [
@@ -23,6 +23,16 @@ BY_HAND = [
     (0xA7, (0x123456789,), 0x23456789),
     (0xAC, (1 << 31,), 0xFFFFFFFF80000000),
     (0xAD, (1 << 31,), 1 << 31),
+    # the sign of the low 8, 16 and 32 bits, and no bit above them
+    (0xC0, (0x7F,), 0x7F),
+    (0xC0, (0x80,), 0xFFFFFF80),
+    (0xC0, (0x17F,), 0x7F),
+    (0xC1, (0x7FFF,), 0x7FFF),
+    (0xC1, (0x8000,), 0xFFFF8000),
+    (0xC2, (0xFF,), (1 << 64) - 1),
+    (0xC3, (0x8000,), 0xFFFFFFFFFFFF8000),
+    (0xC4, (0x80000000,), 0xFFFFFFFF80000000),
+    (0xC4, (0x17FFFFFFF,), 0x7FFFFFFF),
     # lt_s and lt_u of -1 and 1, ge_s and ge_u of the least number and 0
     (0x48, (0xFFFFFFFF, 1), 1),
     (0x49, (0xFFFFFFFF, 1), 0),
@@ -68,7 +78,7 @@ def shown(result):
 
 def table():
     for byte, function, bits, one in sorted(operators(), key=lambda operator: operator[0]):
-        for a in operands(bits):
+        for a in single_operands(bits) if one else operands(bits):
             if one:
                 results = [function(a, bits)]
             else:

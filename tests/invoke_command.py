@@ -108,6 +108,9 @@ RUNS = [
     ("41 07 41 7F 6E 1A", 10, OK, 4),
     # 5 / (-1 + 1): the sum wraps to 0. The -1 is spelt with all five bytes.
     ("41 05 41 FF FF FF FF 7F 41 81 80 00 6A 6E 1A", 10, trap("integer divide by zero"), 5),
+    # The low 8 bits of 128 with their sign, which is the number -128: it traps where it is another one.
+    ("41 80 01 C0 1A", 10, OK, 3),
+    ("41 80 01 C0 41 80 7F 47 04 40 00 0B", 10, OK, 5),
     # An operator on 64-bit integers, a block that is left, and a loop without an end.
     ("42 00 1A", 10, OK, 2),
     ("02 40 0C 00 00 0B", 10, OK, 2),

@@ -42,7 +42,7 @@ def result_bits(byte, bits):
 def integer_cases():
     for byte, function, bits, one in integers.operators():
         right, traps, sample = b"", [], None
-        for a in integers.operands(bits):
+        for a in integers.single_operands(bits) if one else integers.operands(bits):
             for b in [None] if one else integers.operands(bits):
                 given = const(a, bits) + (b"" if one else const(b, bits)) + bytes([byte])
                 result = function(a, bits) if one else function(a, b, bits)

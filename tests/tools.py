@@ -193,7 +193,7 @@ def one(operators, local_types="00", names=None, **others):
 FLOAT = one("43 00 00 80 3F 43 00 00 80 3F 92 1A")
 LOCAL = one("", "01 01 7D")
 PARAMETER = named(module(types=["60 00 00", "60 01 7C 01 7F"], functions=["00", "01"], exports=[START + "00"], bodies=["", "41 00"]), {0: b"first", 1: b"taken"})
-EXTENDED, FILLED, SATURATED = one("41 00 C0 1A"), one("41 00 41 00 41 00 FC 0B 00", memories=["00 01"]), one("43 00 00 00 00 FC 00 1A")
+TAIL_CALL, FILLED, SATURATED = one("12 01"), one("41 00 41 00 41 00 FC 0B 00", memories=["00 01"]), one("43 00 00 00 00 FC 00 1A")
 REFERENCES = one("41 00 11 00 80 80 80 80 00", tables=["70 00 01"])
 OBJECT = module(exports=[START + "00"], bodies=[""])
 OBJECT = OBJECT[:30] + bytes([12, 1, 0]) + OBJECT[30:] + custom(b"linking", 4)
@@ -214,9 +214,9 @@ MODULE_CASES = [
      "|floats function 0 <first>: 3 float operators, the first f32.const at byte 36|" + NO_FLOATS),
     (SATURATED, (5, 36), "a float operator", "where {at}, in the section of bodies|in function 0 <first>|operator f32.const, number 0 of its body"
      "|floats function 0 <first>: 2 float operators, the first f32.const at byte 36|" + NO_FLOATS),
-    (EXTENDED, (6, 38), "a byte that is no operator of WebAssembly Core 1.0", "where {at}, in the section of bodies|in function 0 <first>"
-     "|operator i32.extend8_s, number 1 of its body|found the byte C0|means sign extension of a later version of WebAssembly|%s, and without -msign-ext." % CORE_ONE),
-    (FILLED, (6, 47), "a byte that is no operator of WebAssembly Core 1.0", "where {at}, in the section of bodies|in function 0 <first>"
+    (TAIL_CALL, (6, 36), "a byte of no operator that is known here", "where {at}, in the section of bodies|in function 0 <first>"
+     "|operator return_call, number 0 of its body|found the byte 12|means tail calls of a later version of WebAssembly|%s, and without -mtail-call." % CORE_ONE),
+    (FILLED, (6, 47), "a byte of no operator that is known here", "where {at}, in the section of bodies|in function 0 <first>"
      "|operator memory.fill, number 3 of its body|found the byte FC|means bulk memory of a later version of WebAssembly|%s, and without -mbulk-memory." % CORE_ONE),
     (LOCAL, (7, 37), "a float type", "where {at}, in the section of bodies|in function 0 <first>|part the locals of the function"
      "|floats function 0 <first>: 1 local of floats|" + NO_FLOATS),

@@ -247,6 +247,10 @@ OPERATORS = [
     of_body("41 00 A7 1A", broken(31, 1, 0)),
     of_body("42 00 AC 1A", broken(31, 1, 0)),
     of_body("42 00 AD 1A", broken(31, 1, 0)),
+    of_body("41 00 C0 C1 AC C2 C3 C4 1A", valid((1, 0))),
+    *[of_body(f"42 00 {byte} 1A", broken(31, 1, 0)) for byte in ("C0", "C1")],
+    *[of_body(f"41 00 {byte} 1A", broken(31, 1, 0)) for byte in ("C2", "C3", "C4")],
+    *[of_body(f"{byte} 1A", broken(32, 0, 0)) for byte in ("C0", "C4")],
 ]
 
 # Calls, direct and through a table.

@@ -1,5 +1,5 @@
-"""The integer operators of WebAssembly Core 1.0, section 4.3.2. Nothing here is taken from the repository's code: each operator is
-computed from its definition in the standard, on Python's unbounded integers.
+"""The integer operators of WebAssembly Core 1.0, section 4.3.2, and the sign extensions of Core 2.0, the same section. Nothing here
+is taken from the repository's code: each operator is computed from its definition in the standard, on Python's unbounded integers.
 """
 
 
@@ -87,9 +87,23 @@ def operators():
     yield 0xA7, lambda a, n: a % (1 << 32), 64, True
     yield 0xAC, lambda a, n: signed(a, 32) % (1 << 64), 32, True
     yield 0xAD, lambda a, n: a, 32, True
+    for byte, bits, low in ((0xC0, 32, 8), (0xC1, 32, 16), (0xC2, 64, 8), (0xC3, 64, 16), (0xC4, 64, 32)):
+        yield byte, lambda a, n, low=low: signed(a % (1 << low), low) % (1 << n), bits, True
 
 
 def operands(bits):
     """0, 1, -1, the least, the greatest, the least's neighbours, and counts about both widths."""
     least = 1 << (bits - 1)
     return [0, 1, 2, 31, 32, 33, 63, 64, 65, least - 2, least - 1, least, least + 1, 2 * least - 2, 2 * least - 1]
+
+
+# About the signs of the low 8, 16 and 32 bits, with and without a bit above them.
+ABOUT_LOW_BITS = {
+    32: [0x7F, 0x80, 0xFF, 0x17F, 0x7FFF, 0x8000, 0xFFFF, 0x17FFF],
+    64: [0x7F, 0x80, 0xFF, 0x7FFF, 0x8000, 0x7FFFFFFF, 0x80000000, 0x17FFFFFFF],
+}
+
+
+def single_operands(bits):
+    """The same, and those about low bits: for operators of one operand."""
+    return operands(bits) + ABOUT_LOW_BITS[bits]

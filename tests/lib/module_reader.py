@@ -1,5 +1,6 @@
 """A reader of modules that is written from the binary format alone (WebAssembly Core 1.0, chapter 5, without floating
-point, and the limits and refusal numbers of docs/FORMATS.md). Nothing here is taken from the repository's code.
+point and with the sign extensions of Core 2.0, and the limits and refusal numbers of docs/FORMATS.md). Nothing here is
+taken from the repository's code.
 
 `refusal` answers the number and the place of the first refusal of a file, or None where it is read.
 """
@@ -11,7 +12,7 @@ CUT_SHORT, LEB_TOO_LONG, LEB_SPARE, NOT_UTF8, FLOAT_OPERATOR, UNKNOWN_OPERATOR, 
 BAD_NESTING, TOO_DEEP, TOO_MANY_LOCALS, TOO_MANY_TARGETS, RESERVED, REST_AFTER_END, BAD_MAGIC, BAD_VERSION = range(9, 17)
 SECTION_ORDER, SECTION_SIZE, UNKNOWN_SECTION, COUNTS_DIFFER, TOO_LARGE, BAD_KIND, BAD_LIMITS, BAD_CONSTANT = range(17, 25)
 
-INTEGER_OPERATORS = {*range(0x45, 0x5B), *range(0x67, 0x8B), 0xA7, 0xAC, 0xAD}
+INTEGER_OPERATORS = {*range(0x45, 0x5B), *range(0x67, 0x8B), 0xA7, 0xAC, 0xAD, *range(0xC0, 0xC5)}
 FLOAT_OPERATORS = {
     0x2A, 0x2B, 0x38, 0x39, 0x43, 0x44, *range(0x5B, 0x67), *range(0x8B, 0xA7), *range(0xA8, 0xAC), *range(0xAE, 0xC0),
 }

@@ -1,6 +1,6 @@
 """A validator of modules that is written from the standard alone (WebAssembly Core 1.0, chapter 3 and appendix A.3, without
-floating point; the numbers and the order of the looks are those of docs/FORMATS.md). Nothing here is taken from the
-repository's code.
+floating point and with the sign extensions of Core 2.0; the numbers and the order of the looks are those of
+docs/FORMATS.md). Nothing here is taken from the repository's code.
 
 `decode` makes a module of a file that `module_reader` reads. `violation` answers the first violation of a module as
 its number, the body that it stands in (or None) and the item, or None where the module is valid. `measures` answers the
@@ -26,6 +26,7 @@ NUMERIC.update({byte: ([I32], I32) for byte in range(0x67, 0x6A)})
 NUMERIC.update({byte: ([I32, I32], I32) for byte in range(0x6A, 0x79)})
 NUMERIC.update({byte: ([I64], I64) for byte in range(0x79, 0x7C)})
 NUMERIC.update({byte: ([I64, I64], I64) for byte in range(0x7C, 0x8B)})
+NUMERIC.update({0xC0: ([I32], I32), 0xC1: ([I32], I32), 0xC2: ([I64], I64), 0xC3: ([I64], I64), 0xC4: ([I64], I64)})
 
 
 class Bytes:

@@ -11,7 +11,7 @@ RULES = {
     3: "a number has spare bits that are set",
     4: "a name is no UTF-8",
     5: "a float operator",
-    6: "a byte that is no operator of WebAssembly Core 1.0",
+    6: "a byte of no operator that is known here",
     7: "a float type",
     8: "a byte that is no type of WebAssembly Core 1.0",
     9: "an else without its if",
@@ -233,8 +233,6 @@ def explain_unknown_operator(report, survey, place):
 
 
 def feature_of(code, name):
-    if 0xC0 <= code <= 0xC4:
-        return "sign extension", "-msign-ext"
     if code == 0xFC and name and name.startswith("memory"):
         return "bulk memory", "-mbulk-memory"
     if code == 0xFD:

@@ -49,6 +49,8 @@ fn operators_compute(rt: HostRuntime) {
     assert!(rt; eqz.operation().takes_one_operand());
     assert!(rt; matches!(eqz.operation().operand_type(), ValType::I32));
     assert_eq!(rt; apply_unary(eqz, 0), 1);
+    let extend8_s = IntOp::from_byte(0xC0).expect(&rt, "i32.extend8_s");
+    assert_eq!(rt; apply_unary(extend8_s, 128), 4_294_967_168);
     let div_s = IntOp::from_byte(0x6D).expect(&rt, "i32.div_s");
     assert!(rt; !div_s.operation().takes_one_operand());
     assert!(rt; matches!(div_s.operation().operand_type(), ValType::I32));

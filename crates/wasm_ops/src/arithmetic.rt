@@ -1,7 +1,10 @@
 //! The integer operators on numbers (WebAssembly Core 1.0, section 4.3.2; for the sign extensions Core 2.0, the same section).
 ghost use Rattle.std.specs.Prelude.{◌≡◌, ◌↔◌, ◌⊎◌, IfOk, IfErr, Err, Some};
+ghost use Rattle.wasm_ops.specs.declared.operations.Operation.TheVariants as operation;
+ghost use Rattle.wasm_ops.specs.declared.types.ValType.TheVariants.{I32, I64};
 ghost use Rattle.wasm_ops.specs.Operations.{IsOfOne, IsOfTwo, operation_of};
-ghost use Rattle.wasm_ops.specs.Arithmetic.{IsDivision, IsOperand, IsResult, Overflows, binary_result, unary_result};
+ghost use Rattle.wasm_ops.specs.Arithmetic.{IsDivision, IsOperand, IsResult, Overflows, binary_result, two_operands, unary_result};
+ghost use Rattle.wasm_ops.specs.Values.{IsOfType};
 
 use crate::{Arithmetic, BitCount, IntOp, Relation, SignExtension, Trap};
 
@@ -62,41 +65,41 @@ fn combine(byte: u8, a: u64, b: u64) -> Result<u64, Trap>
     ensures of_its_type { IfOk result (IsResult byte) }
 {
     match byte {
-        0x46 => Ok(u64::from(Relation::Eq.holds_i32(a as u32, b as u32))),
-        0x47 => Ok(u64::from(Relation::Ne.holds_i32(a as u32, b as u32))),
-        0x48 => Ok(u64::from(Relation::LtS.holds_i32(a as u32, b as u32))),
-        0x49 => Ok(u64::from(Relation::LtU.holds_i32(a as u32, b as u32))),
-        0x4A => Ok(u64::from(Relation::GtS.holds_i32(a as u32, b as u32))),
-        0x4B => Ok(u64::from(Relation::GtU.holds_i32(a as u32, b as u32))),
-        0x4C => Ok(u64::from(Relation::LeS.holds_i32(a as u32, b as u32))),
-        0x4D => Ok(u64::from(Relation::LeU.holds_i32(a as u32, b as u32))),
-        0x4E => Ok(u64::from(Relation::GeS.holds_i32(a as u32, b as u32))),
-        0x4F => Ok(u64::from(Relation::GeU.holds_i32(a as u32, b as u32))),
-        0x51 => Ok(u64::from(Relation::Eq.holds_i64(a, b))),
-        0x52 => Ok(u64::from(Relation::Ne.holds_i64(a, b))),
-        0x53 => Ok(u64::from(Relation::LtS.holds_i64(a, b))),
-        0x54 => Ok(u64::from(Relation::LtU.holds_i64(a, b))),
-        0x55 => Ok(u64::from(Relation::GtS.holds_i64(a, b))),
-        0x56 => Ok(u64::from(Relation::GtU.holds_i64(a, b))),
-        0x57 => Ok(u64::from(Relation::LeS.holds_i64(a, b))),
-        0x58 => Ok(u64::from(Relation::LeU.holds_i64(a, b))),
-        0x59 => Ok(u64::from(Relation::GeS.holds_i64(a, b))),
-        0x5A => Ok(u64::from(Relation::GeU.holds_i64(a, b))),
-        0x6A => Ok(u64::from(Arithmetic::Add.of_i32(a as u32, b as u32)?)),
-        0x6B => Ok(u64::from(Arithmetic::Sub.of_i32(a as u32, b as u32)?)),
-        0x6C => Ok(u64::from(Arithmetic::Mul.of_i32(a as u32, b as u32)?)),
-        0x6D => Ok(u64::from(Arithmetic::DivS.of_i32(a as u32, b as u32)?)),
-        0x6E => Ok(u64::from(Arithmetic::DivU.of_i32(a as u32, b as u32)?)),
-        0x6F => Ok(u64::from(Arithmetic::RemS.of_i32(a as u32, b as u32)?)),
-        0x70 => Ok(u64::from(Arithmetic::RemU.of_i32(a as u32, b as u32)?)),
-        0x71 => Ok(u64::from(Arithmetic::And.of_i32(a as u32, b as u32)?)),
-        0x72 => Ok(u64::from(Arithmetic::Or.of_i32(a as u32, b as u32)?)),
-        0x73 => Ok(u64::from(Arithmetic::Xor.of_i32(a as u32, b as u32)?)),
-        0x74 => Ok(u64::from(Arithmetic::Shl.of_i32(a as u32, b as u32)?)),
-        0x75 => Ok(u64::from(Arithmetic::ShrS.of_i32(a as u32, b as u32)?)),
-        0x76 => Ok(u64::from(Arithmetic::ShrU.of_i32(a as u32, b as u32)?)),
-        0x77 => Ok(u64::from(Arithmetic::Rotl.of_i32(a as u32, b as u32)?)),
-        0x78 => Ok(u64::from(Arithmetic::Rotr.of_i32(a as u32, b as u32)?)),
+        0x46 => compare_i32(Relation::Eq, a, b),
+        0x47 => compare_i32(Relation::Ne, a, b),
+        0x48 => compare_i32(Relation::LtS, a, b),
+        0x49 => compare_i32(Relation::LtU, a, b),
+        0x4A => compare_i32(Relation::GtS, a, b),
+        0x4B => compare_i32(Relation::GtU, a, b),
+        0x4C => compare_i32(Relation::LeS, a, b),
+        0x4D => compare_i32(Relation::LeU, a, b),
+        0x4E => compare_i32(Relation::GeS, a, b),
+        0x4F => compare_i32(Relation::GeU, a, b),
+        0x51 => compare_i64(Relation::Eq, a, b),
+        0x52 => compare_i64(Relation::Ne, a, b),
+        0x53 => compare_i64(Relation::LtS, a, b),
+        0x54 => compare_i64(Relation::LtU, a, b),
+        0x55 => compare_i64(Relation::GtS, a, b),
+        0x56 => compare_i64(Relation::GtU, a, b),
+        0x57 => compare_i64(Relation::LeS, a, b),
+        0x58 => compare_i64(Relation::LeU, a, b),
+        0x59 => compare_i64(Relation::GeS, a, b),
+        0x5A => compare_i64(Relation::GeU, a, b),
+        0x6A => compute_i32(Arithmetic::Add, a, b),
+        0x6B => compute_i32(Arithmetic::Sub, a, b),
+        0x6C => compute_i32(Arithmetic::Mul, a, b),
+        0x6D => compute_i32(Arithmetic::DivS, a, b),
+        0x6E => compute_i32(Arithmetic::DivU, a, b),
+        0x6F => compute_i32(Arithmetic::RemS, a, b),
+        0x70 => compute_i32(Arithmetic::RemU, a, b),
+        0x71 => compute_i32(Arithmetic::And, a, b),
+        0x72 => compute_i32(Arithmetic::Or, a, b),
+        0x73 => compute_i32(Arithmetic::Xor, a, b),
+        0x74 => compute_i32(Arithmetic::Shl, a, b),
+        0x75 => compute_i32(Arithmetic::ShrS, a, b),
+        0x76 => compute_i32(Arithmetic::ShrU, a, b),
+        0x77 => compute_i32(Arithmetic::Rotl, a, b),
+        0x78 => compute_i32(Arithmetic::Rotr, a, b),
         0x7C => Arithmetic::Add.of_i64(a, b),
         0x7D => Arithmetic::Sub.of_i64(a, b),
         0x7E => Arithmetic::Mul.of_i64(a, b),
@@ -114,4 +117,35 @@ fn combine(byte: u8, a: u64, b: u64) -> Result<u64, Trap>
         0x8A => Arithmetic::Rotr.of_i64(a, b),
         _ => unreachable!(),
     }
+}
+
+/// What a comparison of two i32 gives.
+#[inline(always)]
+fn compare_i32(relation: Relation, a: u64, b: u64) -> Result<u64, Trap>
+    requires a_of_its_type { IsOfType I32 a }
+    requires b_of_its_type { IsOfType I32 b }
+    ensures value { result ≡ two_operands (operation.Compare I32 relation) a b }
+    ensures of_its_type { IfOk result (IsOfType I32) }
+{
+    Ok(u64::from(relation.holds_i32(a as u32, b as u32)))
+}
+
+/// What a comparison of two i64 gives, which is an i32.
+#[inline(always)]
+fn compare_i64(relation: Relation, a: u64, b: u64) -> Result<u64, Trap>
+    ensures value { result ≡ two_operands (operation.Compare I64 relation) a b }
+    ensures of_its_type { IfOk result (IsOfType I32) }
+{
+    Ok(u64::from(relation.holds_i64(a, b)))
+}
+
+/// What is computed from two i32, or the trap.
+#[inline(always)]
+fn compute_i32(arithmetic: Arithmetic, a: u64, b: u64) -> Result<u64, Trap>
+    requires a_of_its_type { IsOfType I32 a }
+    requires b_of_its_type { IsOfType I32 b }
+    ensures value { result ≡ two_operands (operation.Compute I32 arithmetic) a b }
+    ensures of_its_type { IfOk result (IsOfType I32) }
+{
+    Ok(u64::from(arithmetic.of_i32(a as u32, b as u32)?))
 }

@@ -1,7 +1,7 @@
 //! The operators that hold no others (WebAssembly Core 1.0, sections 3.3.1 to 3.3.5).
 ghost use Rattle.std.specs.Prelude.{◌≡◌, ◌+◌, ◌≤◌, ◌^◌, nat_le, slice_get};
 ghost use Rattle.wasm_meaning.specs.TypingOperands.{known as known_walk, holds as holds_walk};
-ghost use Rattle.wasm_meaning.specs.Typing.{plain as plain_walk, aligned as aligned_walk, with_table as with_table_walk, with_memory as with_memory_walk, call as call_walk, call_indirect as call_indirect_walk, set_global as set_global_walk, load as load_walk, store as store_walk, one_operand as one_operand_walk, two_operands as two_operands_walk};
+ghost use Rattle.wasm_meaning.specs.Typing.{plain as plain_walk, aligned as aligned_walk, with_table as with_table_walk, with_memory as with_memory_walk, call as call_walk, call_indirect as call_indirect_walk, load as load_walk, store as store_walk, one_operand as one_operand_walk, two_operands as two_operands_walk};
 ghost use Rattle.wasm_meaning.specs.ValiditySpaces.{globals};
 ghost use Rattle.wasm_ops.specs.declared.operators.Op.TheVariants as op;
 ghost use Rattle.wasm_ops.specs.Operations.{operation_of};
@@ -129,17 +129,6 @@ impl Walker {
         self.known(Rule::UnknownIndex, scope.whole.global(index))
     }
 
-    fn set_global(&mut self, global: GlobalType) -> Result<(), BodyFault>
-        ensures walked { Follows (λ u. self.new.now) result (set_global_walk global self.old.now) }
-        ensures blocks { self.new.blocks ≡ self.old.blocks }
-        ensures place { self.new.now.place ≡ self.old.now.place }
-        ensures height { height self.new.now ≤ height self.old.now + 1 }
-    {
-        self.holds(Rule::ImmutableGlobal, global.mutable)?;
-        self.take_off(Some(global.value))?;
-        Ok(())
-    }
-
     fn one_operand(&mut self, op: IntOp) -> Result<(), BodyFault>
         ensures walked { Follows (λ u. self.new.now) result (one_operand_walk (operation_of op) self.old.now) }
         ensures blocks { self.new.blocks ≡ self.old.blocks }
@@ -184,6 +173,79 @@ impl Walker {
         Ok(())
     }
 
+    fn local_get(&mut self, scope: &Scope<'_>, index: u32) -> Result<(), BodyFault>
+        ensures walked { Follows (λ u. self.new.now) result (plain_walk (context_at scope.now self.old) (op.LocalGet index) self.old.now) }
+        ensures blocks { self.new.blocks ≡ self.old.blocks }
+        ensures place { self.new.now.place ≡ self.old.now.place }
+        ensures height { height self.new.now ≤ height self.old.now + 1 }
+    {
+        let value = self.local(scope, index)?;
+        self.gives(value)
+    }
+
+    fn local_set(&mut self, scope: &Scope<'_>, index: u32) -> Result<(), BodyFault>
+        ensures walked { Follows (λ u. self.new.now) result (plain_walk (context_at scope.now self.old) (op.LocalSet index) self.old.now) }
+        ensures blocks { self.new.blocks ≡ self.old.blocks }
+        ensures place { self.new.now.place ≡ self.old.now.place }
+        ensures height { height self.new.now ≤ height self.old.now + 1 }
+    {
+        let value = self.local(scope, index)?;
+        self.take_off(Some(value))?;
+        Ok(())
+    }
+
+    fn local_tee(&mut self, scope: &Scope<'_>, index: u32) -> Result<(), BodyFault>
+        ensures walked { Follows (λ u. self.new.now) result (plain_walk (context_at scope.now self.old) (op.LocalTee index) self.old.now) }
+        ensures blocks { self.new.blocks ≡ self.old.blocks }
+        ensures place { self.new.now.place ≡ self.old.now.place }
+        ensures height { height self.new.now ≤ height self.old.now + 1 }
+    {
+        let value = self.local(scope, index)?;
+        self.keep_result(Some(value))
+    }
+
+    fn global_get(&mut self, scope: &Scope<'_>, index: u32) -> Result<(), BodyFault>
+        ensures walked { Follows (λ u. self.new.now) result (plain_walk (context_at scope.now self.old) (op.GlobalGet index) self.old.now) }
+        ensures blocks { self.new.blocks ≡ self.old.blocks }
+        ensures place { self.new.now.place ≡ self.old.now.place }
+        ensures height { height self.new.now ≤ height self.old.now + 1 }
+    {
+        let global = self.global(scope, index)?;
+        self.gives(global.value)
+    }
+
+    fn global_set(&mut self, scope: &Scope<'_>, index: u32) -> Result<(), BodyFault>
+        ensures walked { Follows (λ u. self.new.now) result (plain_walk (context_at scope.now self.old) (op.GlobalSet index) self.old.now) }
+        ensures blocks { self.new.blocks ≡ self.old.blocks }
+        ensures place { self.new.now.place ≡ self.old.now.place }
+        ensures height { height self.new.now ≤ height self.old.now + 1 }
+    {
+        let global = self.global(scope, index)?;
+        self.holds(Rule::ImmutableGlobal, global.mutable)?;
+        self.take_off(Some(global.value))?;
+        Ok(())
+    }
+
+    fn memory_size(&mut self, scope: &Scope<'_>) -> Result<(), BodyFault>
+        ensures walked { Follows (λ u. self.new.now) result (plain_walk (context_at scope.now self.old) op.MemorySize self.old.now) }
+        ensures blocks { self.new.blocks ≡ self.old.blocks }
+        ensures place { self.new.now.place ≡ self.old.now.place }
+        ensures height { height self.new.now ≤ height self.old.now + 1 }
+    {
+        self.with_memory(scope)?;
+        self.gives(ValType::I32)
+    }
+
+    fn memory_grow(&mut self, scope: &Scope<'_>) -> Result<(), BodyFault>
+        ensures walked { Follows (λ u. self.new.now) result (plain_walk (context_at scope.now self.old) op.MemoryGrow self.old.now) }
+        ensures blocks { self.new.blocks ≡ self.old.blocks }
+        ensures place { self.new.now.place ≡ self.old.now.place }
+        ensures height { height self.new.now ≤ height self.old.now + 1 }
+    {
+        self.with_memory(scope)?;
+        self.unary(ValType::I32, ValType::I32)
+    }
+
     /// One operator that is no block.
     pub(crate) fn plain(&mut self, scope: &Scope<'_>, op: Op) -> Result<(), BodyFault>
         ensures walked { Follows (λ u. self.new.now) result (plain_walk (context_at scope.now self.old) op self.old.now) }
@@ -204,21 +266,15 @@ impl Walker {
             Op::CallIndirect(index) => self.call_indirect(scope, index),
             Op::Drop => Ok(self.take_off(None)?),
             Op::Select => self.select(),
-            Op::LocalGet(index) => self.gives(self.local(scope, index)?),
-            Op::LocalSet(index) => Ok(self.take_off(Some(self.local(scope, index)?))?),
-            Op::LocalTee(index) => self.keep_result(Some(self.local(scope, index)?)),
-            Op::GlobalGet(index) => self.gives(self.global(scope, index)?.value),
-            Op::GlobalSet(index) => self.set_global(self.global(scope, index)?),
+            Op::LocalGet(index) => self.local_get(scope, index),
+            Op::LocalSet(index) => self.local_set(scope, index),
+            Op::LocalTee(index) => self.local_tee(scope, index),
+            Op::GlobalGet(index) => self.global_get(scope, index),
+            Op::GlobalSet(index) => self.global_set(scope, index),
             Op::Load { access, align, .. } => self.load(scope, access, align),
             Op::Store { access, align, .. } => self.store(scope, access, align),
-            Op::MemorySize => {
-                self.with_memory(scope)?;
-                self.gives(ValType::I32)
-            }
-            Op::MemoryGrow => {
-                self.with_memory(scope)?;
-                self.unary(ValType::I32, ValType::I32)
-            }
+            Op::MemorySize => self.memory_size(scope),
+            Op::MemoryGrow => self.memory_grow(scope),
             Op::ConstI32(_) => self.gives(ValType::I32),
             Op::ConstI64(_) => self.gives(ValType::I64),
             Op::Unary(op) => self.one_operand(op),

@@ -1,9 +1,9 @@
--- What a write, a growth and a clearing leave of a strip and of the memory in it.
+-- What a write, a growth and a clearing leave of a room and of the memory in it.
 use Rattle.std.proofs.Common.{◌≡◌, ℕ, ◌+◌, ◌-◌, ◌*◌, ◌/◌, ◌≤◌, List, [], ◌++◌, length, take, drop, refl, sym, ap, subst, ◌∙◌, arith, length-append}
-use Rattle.std.proofs.Math.Seq.{take-add, take-append-add, drop-append-add}
-use Rattle.std.proofs.lemmas.List.{length-drop, length-replicate, length-take-le, take-take, drop-take, drop-drop, take-replicate, drop-replicate, replicate-append-replicate}
+use Rattle.std.proofs.Math.Seq.{take-add, take-length, take-append-add, drop-append-add}
+use Rattle.std.proofs.lemmas.List.{take-append-le, drop-append-le, take-append-drop, length-drop, length-replicate, length-take-le, take-take, drop-take, drop-drop, take-replicate, drop-replicate, replicate-append-replicate}
 use Rattle.wasm_meaning.specs.Bytes.{page, zeros, with_bytes, size_of}
-use Rattle.wasm_store.specs.Memory.{Memory, memory_of, IsHeld}
+use Rattle.wasm_store.specs.Memory.{Memory, Laid, strip_of, memory_of, IsHeld}
 
 take_past : (n k : ℕ) (xs ys : List ℕ) → n ≡ length xs + k → take n (xs ++ ys) ≡ xs ++ take k ys
 take_past n k xs ys e = ap (λ (m : ℕ). take m (xs ++ ys)) e ∙ take-append-add xs ys k
@@ -50,87 +50,142 @@ drop-with_bytes used strip at bytes fits within =
     ∙ drop-drop k end strip
     ∙ ap (λ (n : ℕ). drop n strip) more
 
-held_as : (used : ℕ) (strip after : List ℕ) → IsHeld used strip → length after ≡ length strip → drop used after ≡ drop used strip → IsHeld used after
-held_as used strip after held long same = record {
+-- the same room with other bytes laid down
+abbrev pub holding : Laid → List ℕ → Laid
+holding room bytes = record room { bytes = bytes }
+
+held_as : (used : ℕ) (room : Laid) (after : List ℕ) → IsHeld used room → length after ≡ length room.bytes → drop used after ≡ drop used room.bytes → IsHeld used (holding room after)
+held_as used room after held long same = record {
   within = omega (arith, held.within, long);
   clear = same ∙ held.clear ∙ ap (λ (n : ℕ). zeros (n - used)) (sym long);
-  whole = long ∙ held.whole ∙ ap (λ (n : ℕ). n / page * page) (sym long);
-  small = omega (arith, held.small, long);
+  fits = omega (arith, held.fits, long);
+  small = held.small;
 }
 
-pub held-with_bytes : (used : ℕ) (strip : List ℕ) (at : ℕ) (bytes : List ℕ) → IsHeld used strip → at + length bytes ≤ used → IsHeld used (with_bytes strip at bytes)
-held-with_bytes used strip at bytes held fits =
-    held_as used strip (with_bytes strip at bytes) held (length-with_bytes strip at bytes (omega (arith, fits, held.within))) (drop-with_bytes used strip at bytes fits held.within)
+pub held-with_bytes : (used : ℕ) (room : Laid) (at : ℕ) (bytes : List ℕ) → IsHeld used room → at + length bytes ≤ used → IsHeld used (holding room (with_bytes room.bytes at bytes))
+held-with_bytes used room at bytes held fits =
+    held_as used room (with_bytes room.bytes at bytes) held (length-with_bytes room.bytes at bytes (omega (arith, fits, held.within))) (drop-with_bytes used room.bytes at bytes fits held.within)
 
-length-used : (used : ℕ) (strip : List ℕ) → IsHeld used strip → length (take used strip) ≡ used
-length-used used strip held = length-take-le used strip held.within
+length-used : (used : ℕ) (room : Laid) → IsHeld used room → length (take used room.bytes) ≡ used
+length-used used room held = length-take-le used room.bytes held.within
 
 -- what a write within the memory leaves of it
-pub memory-with_bytes : (used : ℕ) (strip after : List ℕ) (at : ℕ) (bytes : List ℕ) (seen : Memory) → after ≡ with_bytes strip at bytes → memory_of used strip ≡ seen → at + length bytes ≤ length seen.bytes → IsHeld used strip → memory_of used after ≡ record seen { bytes = with_bytes seen.bytes at bytes }
-memory-with_bytes used strip after at bytes seen written same fits held =
-    let inside : at + length bytes ≤ length (take used strip) = subst (λ (m : Memory). at + length bytes ≤ length m.bytes) (sym same) fits in
-    let within : at + length bytes ≤ used = omega (arith, inside, length-used used strip held) in
-    let long = length-with_bytes strip at bytes (omega (arith, within, held.within)) in
+pub memory-with_bytes : (used : ℕ) (room after : Laid) (at : ℕ) (bytes : List ℕ) (seen : Memory) → after ≡ holding room (with_bytes room.bytes at bytes) → memory_of used room ≡ seen → at + length bytes ≤ length seen.bytes → IsHeld used room → memory_of used after ≡ record seen { bytes = with_bytes seen.bytes at bytes }
+memory-with_bytes used room after at bytes seen written same fits held =
+    let inside : at + length bytes ≤ length (take used room.bytes) = subst (λ (m : Memory). at + length bytes ≤ length m.bytes) (sym same) fits in
+    let within : at + length bytes ≤ used = omega (arith, inside, length-used used room held) in
     ap (memory_of used) written
-    ∙ ap (λ (xs : List ℕ). record { bytes = xs; pages = length (with_bytes strip at bytes) / page }) (take-with_bytes used strip at bytes within held.within)
-    ∙ ap (λ (n : ℕ). record { bytes = with_bytes (take used strip) at bytes; pages = n / page }) long
+    ∙ ap (λ (xs : List ℕ). record { bytes = xs; pages = room.pages }) (take-with_bytes used room.bytes at bytes within held.within)
     ∙ ap (λ (m : Memory). record m { bytes = with_bytes m.bytes at bytes }) same
 
--- a memory grows into zeros
-take-more : (used more : ℕ) (strip : List ℕ) → IsHeld used strip → used + more ≤ length strip → take (used + more) strip ≡ take used strip ++ zeros more
-take-more used more strip held fits =
-    take-add used more strip
-    ∙ ap (λ (xs : List ℕ). take used strip ++ take more xs) held.clear
-    ∙ ap (λ (xs : List ℕ). take used strip ++ xs) (take-replicate more (length strip - used) 0 (omega (arith, fits)))
+-- more zeros, until there are at least so many bytes
+abbrev pub reached : (count : ℕ) → List ℕ → List ℕ
+reached count bytes = bytes ++ zeros (count - length bytes)
 
-held-more : (used more : ℕ) (strip : List ℕ) → IsHeld used strip → used + more ≤ length strip → IsHeld (used + more) strip
-held-more used more strip held fits =
-    let left : length strip - used - more ≡ length strip - (used + more) = omega arith in
+length-reached : (count : ℕ) (bytes : List ℕ) → length (reached count bytes) ≡ length bytes + (count - length bytes)
+length-reached count bytes = length-append bytes (zeros (count - length bytes)) ∙ ap (λ (n : ℕ). length bytes + n) (length-replicate {A = ℕ} (count - length bytes) 0)
+
+-- the memory is held by them as before
+held-reached : (used count : ℕ) (room : Laid) → IsHeld used room → count ≤ room.pages * page → IsHeld used (holding room (reached count room.bytes))
+held-reached used count room held fits =
+    let more = count - length room.bytes in
+    let long = length-reached count room.bytes in
+    let sum : length room.bytes - used + more ≡ length (reached count room.bytes) - used = omega (arith, long, held.within) in
     record {
-      within = fits;
-      clear = sym (drop-drop more used strip) ∙ ap (λ (xs : List ℕ). drop more xs) held.clear ∙ drop-replicate more (length strip - used) 0 ∙ ap zeros left;
-      whole = held.whole;
+      within = omega (arith, long, held.within);
+      clear = drop-append-le used room.bytes (zeros more) held.within
+          ∙ ap (λ (xs : List ℕ). xs ++ zeros more) held.clear
+          ∙ replicate-append-replicate (length room.bytes - used) more 0
+          ∙ ap zeros sum;
+      fits = omega (arith, long, held.fits, fits);
       small = held.small;
     }
 
-grows_within : (size by : ℕ) (strip : List ℕ) (seen : Memory) → memory_of (size * page) strip ≡ seen → size_of seen.bytes + by ≤ seen.pages → IsHeld (size * page) strip → size * page + by * page ≤ length strip
-grows_within size by strip seen same fits held =
-    let there : length (take (size * page) strip) / page + by ≤ length strip / page = subst (λ (m : Memory). size_of m.bytes + by ≤ m.pages) (sym same) fits in
-    omega (arith, there, length-used (size * page) strip held, held.whole)
+-- a memory grows into zeros
+held-more : (used more : ℕ) (room : Laid) → IsHeld used room → used + more ≤ length room.bytes → IsHeld (used + more) room
+held-more used more room held there =
+    let left : length room.bytes - used - more ≡ length room.bytes - (used + more) = omega arith in
+    record {
+      within = there;
+      clear = sym (drop-drop more used room.bytes) ∙ ap (λ (xs : List ℕ). drop more xs) held.clear ∙ drop-replicate more (length room.bytes - used) 0 ∙ ap zeros left;
+      fits = held.fits;
+      small = held.small;
+    }
 
-pub held_grown : (size by : ℕ) (strip : List ℕ) (seen : Memory) → memory_of (size * page) strip ≡ seen → size_of seen.bytes + by ≤ seen.pages → IsHeld (size * page) strip → IsHeld ((size + by) * page) strip
-held_grown size by strip seen same fits held =
-    let sum : size * page + by * page ≡ (size + by) * page = omega arith in
-    subst (λ (used : ℕ). IsHeld used strip) sum (held-more (size * page) (by * page) strip held (grows_within size by strip seen same fits held))
+take-more : (used more : ℕ) (room : Laid) → IsHeld used room → used + more ≤ length room.bytes → take (used + more) room.bytes ≡ take used room.bytes ++ zeros more
+take-more used more room held there =
+    take-add used more room.bytes
+    ∙ ap (λ (xs : List ℕ). take used room.bytes ++ take more xs) held.clear
+    ∙ ap (λ (xs : List ℕ). take used room.bytes ++ xs) (take-replicate more (length room.bytes - used) 0 (omega (arith, there)))
 
-pub memory_grown : (size by : ℕ) (strip : List ℕ) (seen : Memory) → memory_of (size * page) strip ≡ seen → size_of seen.bytes + by ≤ seen.pages → IsHeld (size * page) strip → memory_of ((size + by) * page) strip ≡ record seen { bytes = seen.bytes ++ zeros (by * page) }
-memory_grown size by strip seen same fits held =
-    let sum : (size + by) * page ≡ size * page + by * page = omega arith in
-    ap (λ (used : ℕ). memory_of used strip) sum
-    ∙ ap (λ (xs : List ℕ). record { bytes = xs; pages = length strip / page }) (take-more (size * page) (by * page) strip held (grows_within size by strip seen same fits held))
+-- there is room for so many pages more
+pub grows_within : (size by : ℕ) (room : Laid) (seen : Memory) → memory_of (size * page) room ≡ seen → size_of seen.bytes + by ≤ seen.pages → IsHeld (size * page) room → size + by ≤ room.pages
+grows_within size by room seen same fits held =
+    let there : length (take (size * page) room.bytes) / page + by ≤ room.pages = subst (λ (m : Memory). size_of m.bytes + by ≤ m.pages) (sym same) fits in
+    omega (arith, there, length-used (size * page) room held)
+
+-- a memory that grows, where what it grows into is laid down
+grown_there : (size by : ℕ) (room : Laid) → size * page + by * page ≤ length (reached ((size + by) * page) room.bytes)
+grown_there size by room = omega (arith, length-reached ((size + by) * page) room.bytes)
+
+pub held_grown : (size by : ℕ) (room after : Laid) (seen : Memory) → after ≡ holding room (reached ((size + by) * page) room.bytes) → memory_of (size * page) room ≡ seen → size_of seen.bytes + by ≤ seen.pages → IsHeld (size * page) room → IsHeld ((size + by) * page) after
+held_grown size by room after seen laid same fits held =
+    let count = (size + by) * page in
+    let wide : count ≤ room.pages * page = omega (arith, grows_within size by room seen same fits held) in
+    let sum : size * page + by * page ≡ count = omega arith in
+    let grown = held-more (size * page) (by * page) (holding room (reached count room.bytes)) (held-reached (size * page) count room held wide) (grown_there size by room) in
+    subst (IsHeld count) (sym laid) (subst (λ (used : ℕ). IsHeld used (holding room (reached count room.bytes))) sum grown)
+
+pub memory_grown : (size by : ℕ) (room after : Laid) (seen : Memory) → after ≡ holding room (reached ((size + by) * page) room.bytes) → memory_of (size * page) room ≡ seen → size_of seen.bytes + by ≤ seen.pages → IsHeld (size * page) room → memory_of ((size + by) * page) after ≡ record seen { bytes = seen.bytes ++ zeros (by * page) }
+memory_grown size by room after seen laid same fits held =
+    let count = (size + by) * page in
+    let wide : count ≤ room.pages * page = omega (arith, grows_within size by room seen same fits held) in
+    let sum : count ≡ size * page + by * page = omega arith in
+    let whole = holding room (reached count room.bytes) in
+    ap (memory_of count) laid
+    ∙ ap (λ (used : ℕ). memory_of used whole) sum
+    ∙ ap (λ (xs : List ℕ). record { bytes = xs; pages = room.pages }) (take-more (size * page) (by * page) whole (held-reached (size * page) count room held wide) (grown_there size by room))
+    ∙ ap (λ (xs : List ℕ). record { bytes = xs ++ zeros (by * page); pages = room.pages }) (take-append-le (size * page) room.bytes (zeros (count - length room.bytes)) held.within)
     ∙ ap (λ (m : Memory). record m { bytes = m.bytes ++ zeros (by * page) }) same
 
--- a strip whose part in use was cleared is zero
-cleared : (used : ℕ) (strip : List ℕ) → IsHeld used strip → zeros used ++ drop used strip ≡ zeros (length strip)
-cleared used strip held =
-    let whole : used + (length strip - used) ≡ length strip = omega (arith, held.within) in
-    ap (λ (xs : List ℕ). zeros used ++ xs) held.clear ∙ replicate-append-replicate used (length strip - used) 0 ∙ ap zeros whole
+-- what is laid down is what is in use, and zeros
+pub laid_as : (used : ℕ) (room : Laid) (seen : Memory) → memory_of used room ≡ seen → IsHeld used room → room.bytes ≡ seen.bytes ++ zeros (length room.bytes - length seen.bytes)
+laid_as used room seen same held =
+    let long = length-used used room held in
+    sym (take-append-drop used room.bytes)
+    ∙ ap (λ (xs : List ℕ). take used room.bytes ++ xs) held.clear
+    ∙ ap (λ (n : ℕ). take used room.bytes ++ zeros (length room.bytes - n)) (sym long)
+    ∙ ap (λ (m : Memory). m.bytes ++ zeros (length room.bytes - length m.bytes)) same
 
-pub held-cleared : (used : ℕ) (strip : List ℕ) → IsHeld used strip → IsHeld 0 (zeros used ++ drop used strip)
-held-cleared used strip held =
-    let long : length (zeros (length strip)) ≡ length strip = length-replicate {A = ℕ} (length strip) 0 in
-    let nothing : length strip ≡ length (zeros (length strip)) - 0 = omega (arith, long) in
-    subst (IsHeld 0) (sym (cleared used strip held)) (record {
-      within = omega arith;
-      clear = ap zeros nothing;
-      whole = long ∙ held.whole ∙ ap (λ (n : ℕ). n / page * page) (sym long);
-      small = omega (arith, held.small, long);
-    })
+held_zeros : (room : Laid) → room.bytes ≡ zeros (length room.bytes) → length room.bytes ≤ room.pages * page → room.pages ≤ 16384 → IsHeld 0 room
+held_zeros room clear fits small =
+    let all : length room.bytes ≡ length room.bytes - 0 = omega arith in
+    record { within = omega arith; clear = clear ∙ ap zeros all; fits = fits; small = small }
 
-pub memory-cleared : (used : ℕ) (strip : List ℕ) (seen : Memory) → memory_of used strip ≡ seen → IsHeld used strip → memory_of 0 (zeros used ++ drop used strip) ≡ record seen { bytes = [] }
-memory-cleared used strip seen same held =
-    let long : length (zeros used ++ drop used strip) ≡ length strip = ap length (cleared used strip held) ∙ length-replicate {A = ℕ} (length strip) 0 in
-    subst
-    (λ (m : Memory). memory_of 0 (zeros used ++ drop used strip) ≡ record m { bytes = [] })
-    same
-    (ap (λ (n : ℕ). record { bytes = []; pages = n / page }) long)
+-- a strip that is all zero is a room in which nothing but zeros is laid down
+length-strip_of : (room : Laid) → length room.bytes ≤ room.pages * page → length (strip_of room) ≡ room.pages * page
+length-strip_of room fits = omega (arith, fits, length-reached (room.pages * page) room.bytes)
+
+pub held-fresh : (room : Laid) (strip : List ℕ) → strip_of room ≡ strip → strip ≡ zeros (length strip) → length room.bytes ≤ room.pages * page → room.pages ≤ 16384 → IsHeld 0 room
+held-fresh room strip same clear fits small =
+    let n = length room.bytes in
+    let long : length strip ≡ room.pages * page = ap length (sym same) ∙ length-strip_of room fits in
+    let front : take n (strip_of room) ≡ room.bytes = take-append-le n room.bytes (zeros (room.pages * page - n)) (omega arith) ∙ take-length room.bytes in
+    held_zeros room (sym front ∙ ap (λ (xs : List ℕ). take n xs) (same ∙ clear) ∙ take-replicate n (length strip) 0 (omega (arith, long, fits))) fits small
+
+pub pages-fresh : (room : Laid) (strip : List ℕ) → strip_of room ≡ strip → length room.bytes ≤ room.pages * page → room.pages ≡ length strip / page
+pages-fresh room strip same fits =
+    let long : length strip ≡ room.pages * page = ap length (sym same) ∙ length-strip_of room fits in
+    omega (arith, long)
+
+-- what is laid down is zero once the part in use was cleared
+cleared : (used : ℕ) (room : Laid) → IsHeld used room → zeros used ++ drop used room.bytes ≡ zeros (length room.bytes)
+cleared used room held =
+    let whole : used + (length room.bytes - used) ≡ length room.bytes = omega (arith, held.within) in
+    ap (λ (xs : List ℕ). zeros used ++ xs) held.clear ∙ replicate-append-replicate used (length room.bytes - used) 0 ∙ ap zeros whole
+
+pub held-cleared : (used : ℕ) (room : Laid) → IsHeld used room → IsHeld 0 (holding room (zeros used ++ drop used room.bytes))
+held-cleared used room held =
+    let same = cleared used room held in
+    let long : length (zeros used ++ drop used room.bytes) ≡ length room.bytes = ap length same ∙ length-replicate {A = ℕ} (length room.bytes) 0 in
+    held_zeros (holding room (zeros used ++ drop used room.bytes)) (same ∙ ap zeros (sym long)) (omega (arith, held.fits, long)) held.small

@@ -1,5 +1,5 @@
 -- A linear memory as a list of bytes, in a strip that may be longer (WebAssembly Core 1.0, section 4.2.8).
-use Rattle.std.specs.Prelude.{ℕ, ◌≡◌, ◌-◌, ◌*◌, ◌/◌, ◌≤◌, ◌⊎◌, if◌then◌else◌, List, length, take, drop, Option, Some, None}
+use Rattle.std.specs.Prelude.{ℕ, ◌≡◌, ◌-◌, ◌*◌, ◌/◌, ◌≤◌, ◌⊎◌, ◌++◌, if◌then◌else◌, List, length, take, drop, Option, Some, None}
 use Rattle.wasm_meaning.specs.Bytes.{page, zeros, lies_in, with_bytes}
 
 -- the bytes in use, and how many pages the strip behind them has
@@ -7,16 +7,25 @@ pub record Memory : Type 0 where
   pub bytes : List ℕ
   pub pages : ℕ
 
--- the first so many bytes of a strip, as a memory
-abbrev pub memory_of : (used : ℕ) (strip : List ℕ) → Memory
-memory_of used strip = record { bytes = take used strip; pages = length strip / page }
+-- the bytes of a room that are laid down, from its beginning on, and how many pages it has
+pub record Laid : Type 0 where
+  pub bytes : List ℕ
+  pub pages : ℕ
 
--- the rest of the strip is zero, so that a memory may grow into it and is clean as soon as the part in use is
-pub record IsHeld (used : ℕ) (strip : List ℕ) : Type 0 where
-  pub within : used ≤ length strip
-  pub clear : drop used strip ≡ zeros (length strip - used)
-  pub whole : length strip ≡ (length strip / page) * page
-  pub small : length strip ≤ 16384 * page
+-- the strip that a room stands for: what was never laid down is zero
+abbrev pub strip_of : Laid → List ℕ
+strip_of room = room.bytes ++ zeros (room.pages * page - length room.bytes)
+
+-- the first so many bytes of a room, as a memory
+abbrev pub memory_of : (used : ℕ) (room : Laid) → Memory
+memory_of used room = record { bytes = take used room.bytes; pages = room.pages }
+
+-- what is in use is laid down, and what else is laid down is zero, so that a memory may grow into it and is clean as soon as the part in use is
+pub record IsHeld (used : ℕ) (room : Laid) : Type 0 where
+  pub within : used ≤ length room.bytes
+  pub clear : drop used room.bytes ≡ zeros (length room.bytes - used)
+  pub fits : length room.bytes ≤ room.pages * page
+  pub small : room.pages ≤ 16384
 
 -- a load or a store is of so many bytes
 abbrev pub IsWidth : ℕ → Type 0

@@ -6,6 +6,7 @@
 #![tactic(auto)]
 
 mod calls;
+mod extents;
 mod labels;
 pub mod laws;
 mod linear_memory;

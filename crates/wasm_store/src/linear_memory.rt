@@ -3,18 +3,19 @@ ghost use Rattle.std.specs.Prelude.{◌≡◌, ℕ, ◌+◌, ◌-◌, ◌*◌, �
 ghost use Rattle.wasm_meaning.specs.Bytes.{page, zeros, lies_in, bytes_at, with_bytes, loaded, stored, size_of, grown};
 ghost use Rattle.wasm_store.specs.Memory.{IsWidth, laid};
 
-use crate::strips::{PAGE, Strip};
+use crate::extents::{Extent, PAGE};
+use crate::strips::Strip;
 use std::marker::Model;
 
 /// The memory of a running function. Contracts see the bytes in use and the pages of the strip behind them; the rest of the strip is zero.
 pub struct LinearMemory {
-    strip: Strip,
+    extent: Extent,
     size: u32,
 }
 
 impl Drop for LinearMemory {
     fn drop(self) {
-        let LinearMemory { strip: _, size: _ } = self;
+        let LinearMemory { extent: _, size: _ } = self;
     }
 }
 
@@ -25,9 +26,9 @@ impl Model for LinearMemory {
 
     ghost Value = { Memory };
 
-    ghost view = { λ memory. memory_of (memory.size * page) memory.strip };
+    ghost view = { λ memory. memory_of (memory.size * page) memory.extent };
 
-    ghost invariant = { λ memory. IsHeld (memory.size * page) memory.strip };
+    ghost invariant = { λ memory. IsHeld (memory.size * page) memory.extent };
 }
 
 impl LinearMemory {
@@ -37,8 +38,8 @@ impl LinearMemory {
         ensures bytes { result.bytes ≡ [] }
         ensures pages { result.pages ≡ length strip / page }
     {
-        let _pages = strip.pages();
-        LinearMemory { strip, size: 0 }
+        let extent = strip.into_extent();
+        LinearMemory { extent, size: 0 }
     }
 
     /// The pages of the strip.
@@ -47,7 +48,7 @@ impl LinearMemory {
         ensures pages { result ≡ self.now.pages }
         ensures most { result ≤ 16384 }
     {
-        self.strip.pages()
+        self.extent.pages()
     }
 
     /// The pages in use.
@@ -57,7 +58,7 @@ impl LinearMemory {
         ensures bytes { length self.now.bytes ≡ result * page }
         ensures within { result ≤ self.now.pages }
     {
-        let _pages = self.strip.pages();
+        let _pages = self.extent.pages();
         self.size
     }
 
@@ -67,16 +68,17 @@ impl LinearMemory {
         ensures { result.now ≡ self.now.bytes }
     {
         let used = self.size as usize * PAGE;
-        &self.strip.bytes()[..used]
+        &self.extent.bytes()[..used]
     }
 
-    /// All bytes of the strip: those in use, and zeros.
-    pub fn whole(&self) -> &[u8]
-        ensures { result.now ≡ self.now.bytes ++ zeros (self.now.pages * page - length self.now.bytes) }
+    /// The bytes of the strip that were ever laid down: those in use, and zeros.
+    pub fn touched(&self) -> &[u8]
+        ensures bytes { result.now ≡ self.now.bytes ++ zeros (length result.now - length self.now.bytes) }
+        ensures within { length result.now ≤ self.now.pages * page }
     {
-        let _pages = self.strip.pages();
+        let _pages = self.extent.pages();
         let _size = self.size;
-        self.strip.bytes()
+        self.extent.bytes()
     }
 
     /// The number in so many bytes from a place on, or `None` where they leave the memory.
@@ -162,7 +164,7 @@ impl LinearMemory {
         ensures { self.new ≡ record self.old { bytes = [] } }
     {
         let used = self.size as usize * PAGE;
-        self.strip.clear(used);
+        self.extent.clear(used);
         self.size = 0;
     }
 
@@ -190,7 +192,7 @@ impl LinearMemory {
         ensures size { length self.new.bytes ≡ length self.old.bytes }
     {
         let used = self.size as usize * PAGE;
-        self.strip.lay_few(used, at, bytes);
+        self.extent.lay_few(used, at, bytes);
     }
 
     fn copy_within(&mut self, at: usize, bytes: &[u8])
@@ -199,7 +201,7 @@ impl LinearMemory {
         ensures size { length self.new.bytes ≡ length self.old.bytes }
     {
         let _used = self.size;
-        self.strip.lay(at, bytes);
+        self.extent.lay(at, bytes);
     }
 
     fn grow_within(&mut self, by: u32)
@@ -207,7 +209,9 @@ impl LinearMemory {
         ensures bytes { self.new ≡ record self.old { bytes = self.old.bytes ++ zeros (by * page) } }
         ensures size { size_of self.new.bytes ≡ size_of self.old.bytes + by }
     {
-        self.size += by;
+        let size = self.size + by;
+        self.extent.reach(size as usize * PAGE);
+        self.size = size;
     }
 }
 

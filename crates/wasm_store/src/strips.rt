@@ -1,34 +1,35 @@
 //! The allocation behind a linear memory.
-ghost use Rattle.std.specs.Prelude.{◌≡◌, ℕ, ◌+◌, ◌*◌, ◌<◌, ◌≤◌, ◌++◌, length, drop, replicate, IfOk};
-ghost use Rattle.wasm_meaning.specs.Bytes.{page, zeros, with_bytes};
+ghost use Rattle.std.specs.Prelude.{◌≡◌, ◌*◌, ◌<◌, ◌≤◌, length, replicate, IfOk};
+ghost use Rattle.wasm_meaning.specs.Bytes.{page, zeros};
+ghost use Rattle.wasm_store.specs.Memory.{strip_of};
 
+use crate::extents::Extent;
 use std::alloc::{AllocError, Global};
 use std::marker::Model;
 
-/// The size of a page in bytes (WebAssembly Core 1.0, section 4.2.8).
-pub const PAGE: usize = 65_536;
-
 /// A block of whole pages of its own, given back when the strip is dropped. Contracts see it as the list of its bytes.
+///
+/// It is not filled when it is made: what was never used counts as zero, and is not touched.
 pub struct Strip {
-    bytes: Vec<u8>,
-    pages: u32,
+    extent: Extent,
 }
 
 impl Drop for Strip {
     fn drop(self) {
-        let Strip { bytes: _, pages: _ } = self;
+        let Strip { extent: _ } = self;
     }
 }
 
 impl Model for Strip {
-    ghost use Rattle.std.specs.Prelude.{◌≡◌, ℕ, ◌*◌, ◌≤◌, List, length};
+    ghost use Rattle.std.specs.Prelude.{◌*◌, ◌≤◌, ℕ, List, length};
     ghost use Rattle.wasm_meaning.specs.Bytes.{page};
+    ghost use Rattle.wasm_store.specs.Memory.{strip_of};
 
     ghost Value = { List ℕ };
 
-    ghost view = { λ strip. strip.bytes.items };
+    ghost view = { λ strip. strip_of strip.extent };
 
-    ghost invariant = { λ strip. (length strip.bytes.items ≡ strip.pages * page) × (strip.pages ≤ 16384) };
+    ghost invariant = { λ strip. (length strip.extent.bytes ≤ strip.extent.pages * page) × (strip.extent.pages ≤ 16384) };
 }
 
 impl Strip {
@@ -53,8 +54,8 @@ impl Strip {
         requires { pages ≤ 16384 }
         ensures { IfOk result (λ strip. strip ≡ zeros (pages * page)) }
     {
-        let bytes = Vec::from_elem(alloc, 0u8, pages as usize * PAGE)?;
-        Ok(Strip { bytes, pages })
+        let extent = Extent::reserve(alloc, pages)?;
+        Ok(Strip { extent })
     }
 
     /// How many pages it has, at most 16,384.
@@ -63,64 +64,16 @@ impl Strip {
         ensures length { length self.now ≡ result * page }
         ensures most { result ≤ 16384 }
     {
-        self.pages
+        self.extent.pages()
     }
 
-    /// All its bytes.
-    #[inline(always)]
-    pub(crate) fn bytes(&self) -> &[u8]
-        ensures { result.now ≡ self.now }
+    /// The room that it is.
+    pub(crate) fn into_extent(self) -> Extent
+        ensures strip { strip_of result ≡ self }
+        ensures within { length result.bytes ≤ result.pages * page }
+        ensures most { result.pages ≤ 16384 }
     {
-        self.bytes.as_slice()
+        let Strip { extent } = self;
+        extent
     }
-
-    /// Writes bytes from a place on.
-    pub(crate) fn lay(&mut self, at: usize, bytes: &[u8])
-        requires { at + length bytes.now ≤ length self.old }
-        ensures { self.new ≡ with_bytes self.old at bytes.now }
-    {
-        let (_, rest) = self.bytes.split_at_mut(at);
-        let (there, _) = rest.split_at_mut(bytes.len());
-        there.copy_from_slice(bytes);
-    }
-
-    /// Writes a few bytes, of a number known when this is compiled, from a place on. All of them lie within the first `used` bytes, which were tested before.
-    #[inline(always)]
-    pub(crate) fn lay_few<const N: usize>(&mut self, used: usize, at: usize, bytes: [u8; N])
-        requires within { used ≤ length self.old }
-        requires fits { at + length bytes ≤ used }
-        ensures { self.new ≡ with_bytes self.old at bytes.entry }
-    {
-        let (in_use, _) = self.bytes.split_at_mut(used);
-        let (_, rest) = in_use.split_at_mut(at);
-        put_front(rest, bytes);
-    }
-
-    /// Makes so many bytes from the beginning zero.
-    pub(crate) fn clear(&mut self, count: usize)
-        requires { count ≤ length self.old }
-        ensures { self.new ≡ zeros count ++ drop count self.old }
-    {
-        let (front, _) = self.bytes.split_at_mut(count);
-        wipe(front);
-    }
-}
-
-// Writes a few bytes over the first ones.
-#[inline(always)]
-fn put_front<const N: usize>(bytes: &mut [u8], few: [u8; N])
-    requires { length few ≤ length bytes.old }
-    ensures { bytes.new ≡ few.entry ++ drop N bytes.old }
-{
-    match bytes.first_chunk_mut::<N>() {
-        Some(chunk) => *chunk = few,
-        None => unreachable!(),
-    }
-}
-
-// Makes all bytes zero.
-fn wipe(bytes: &mut [u8])
-    ensures { bytes.new ≡ zeros (length bytes.old) }
-{
-    bytes.fill(0);
 }

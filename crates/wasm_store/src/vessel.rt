@@ -145,11 +145,12 @@ impl Vessel {
         self.memory.bytes()
     }
 
-    /// All bytes of the strip: those in use, and zeros.
+    /// The bytes of the strip that any run on it has used: those in use, and zeros. What lies behind them was never touched, and is zero too.
     pub fn strip(&self) -> &[u8]
-        ensures { result.now ≡ self.now.memory ++ zeros (self.now.pages * page - length self.now.memory) }
+        ensures bytes { result.now ≡ self.now.memory ++ zeros (length result.now - length self.now.memory) }
+        ensures within { length result.now ≤ self.now.pages * page }
     {
-        self.memory.whole()
+        self.memory.touched()
     }
 
     /// The number in 1, 2, 4 or 8 bytes from a place on, the lowest first, or `None` where they leave the memory.

@@ -21,6 +21,11 @@ length-with_bytes strip at bytes fits = omega (
   fits,
 )
 
+pub length-written : (bytes now : List ℕ) (pages at : ℕ) (few : List ℕ) (seen : Laid) → record { bytes = bytes; pages = pages } ≡ seen → at + length few ≤ length seen.bytes → now ≡ with_bytes bytes at few → length now ≡ length bytes
+length-written bytes now pages at few seen same fits written =
+    let there : at + length few ≤ length bytes = subst (λ (room : Laid). at + length few ≤ length room.bytes) (sym same) fits in
+    ap length written ∙ length-with_bytes bytes at few there
+
 -- a write within the part in use is a write to that part
 take-with_bytes : (used : ℕ) (strip : List ℕ) (at : ℕ) (bytes : List ℕ) → at + length bytes ≤ used → used ≤ length strip → take used (with_bytes strip at bytes) ≡ with_bytes (take used strip) at bytes
 take-with_bytes used strip at bytes fits within =

@@ -153,6 +153,14 @@ impl Vessel {
         self.memory.touched()
     }
 
+    /// How many blocks of 4,096 bytes were written since the vessel was last clean; a write of the bytes that stood there counts too. It takes no memory.
+    pub fn marked(&self) -> u32
+        ensures clean { result ≡ 0 → self.now.memory ≡ zeros (length self.now.memory) }
+        ensures most { result ≤ self.now.pages * 16 }
+    {
+        self.memory.marked()
+    }
+
     /// The number in 1, 2, 4 or 8 bytes from a place on, the lowest first, or `None` where they leave the memory.
     #[inline(always)]
     pub fn load(&self, at: u64, width: u32) -> Option<u64>

@@ -1,11 +1,11 @@
 -- What marks tell of the bytes under them, after writes and after a rinse.
-use Rattle.std.proofs.Common.{◌≡◌, ℕ, zero, suc, ◌+◌, ◌-◌, ◌*◌, ◌/◌, ◌<◌, ◌≤◌, Bool, true, false, if◌then◌else◌, List, [], ◌∷◌, ◌++◌, length, get_or, set, take, drop, replicate, refl, sym, ap, subst, ◌∙◌, arith, append_assoc, length-append, ⊎_elim}
+use Rattle.std.proofs.Common.{◌≡◌, ℕ, ◌+◌, ◌-◌, ◌*◌, ◌/◌, ◌<◌, ◌≤◌, Bool, true, false, if◌then◌else◌, List, [], ◌∷◌, ◌++◌, length, get_or, set, take, drop, replicate, refl, sym, ap, subst, ◌∙◌, arith, append_assoc, length-append, ⊎_elim}
 use Rattle.std.proofs.lemmas.Bool.{both_ways, cases_lt, cases_eq, cases_Bool}
 use Rattle.std.proofs.lemmas.Grind.{same_number_lists}
 use Rattle.std.proofs.lemmas.List.{get_or-append_right, get_or_append_left, get_or_past, get_or-replicate, get_or-take, get_or-drop, get_or-set_same, get_or-set_other, set_at, drop_at, take_at, drop_more, drop-drop, replicate_more, replicate-append-replicate, length-replicate, length-take-le, take-append-drop, length-drop, length-set}
-use Rattle.std.proofs.lemmas.List.Sums.{get_or-le-sum_by, sum_by_more, count_by-le-length}
+use Rattle.std.proofs.lemmas.List.Sums.{get_or-le-sum_by}
 use Rattle.std.specs.List.{count_by}
-use Rattle.wasm_meaning.specs.Bytes.{zeros, bytes_at, with_bytes}
+use Rattle.wasm_meaning.specs.Bytes.{zeros, with_bytes}
 use Rattle.wasm_store.specs.Marks.{IsTold, Covers, swept}
 use Rattle.wasm_store.specs.Memory.{Laid}
 

@@ -1,5 +1,5 @@
 -- What a write, a growth and a clearing leave of a room and of the memory in it.
-use Rattle.std.proofs.Common.{◌≡◌, ℕ, ◌+◌, ◌-◌, ◌*◌, ◌/◌, ◌≤◌, List, [], ◌++◌, length, take, drop, refl, sym, ap, subst, ◌∙◌, arith, length-append}
+use Rattle.std.proofs.Common.{◌≡◌, ℕ, ◌+◌, ◌-◌, ◌*◌, ◌/◌, ◌≤◌, List, ◌++◌, length, take, drop, refl, sym, ap, subst, ◌∙◌, arith, length-append}
 use Rattle.std.proofs.Math.Seq.{take-add, take-length, take-append-add, drop-append-add}
 use Rattle.std.proofs.lemmas.List.{take-append-le, drop-append-le, take-append-drop, length-drop, length-replicate, length-take-le, take-take, drop-take, drop-drop, take-replicate, drop-replicate, replicate-append-replicate}
 use Rattle.wasm_meaning.specs.Bytes.{page, zeros, with_bytes, size_of}

@@ -1,5 +1,5 @@
 -- Marks on blocks of 4096 bytes: which of them may have a byte that is not zero.
-use Rattle.std.specs.Prelude.{ℕ, ◌≡◌, ◌+◌, ◌*◌, ◌/◌, ◌<◌, ◌≤◌, ◌++◌, Bool, true, false, List, length, drop, replicate, slice_index_or}
+use Rattle.std.specs.Prelude.{ℕ, ◌≡◌, ◌+◌, ◌/◌, ◌<◌, ◌≤◌, ◌++◌, Bool, true, false, List, length, drop, replicate, slice_index_or}
 
 -- a block without a mark has nothing but zeros
 abbrev pub IsTold : (marks : List Bool) (bytes : List ℕ) → Type 0

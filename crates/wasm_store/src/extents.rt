@@ -10,7 +10,10 @@ use std::marker::Model;
 /// The size of a page in bytes (WebAssembly Core 1.0, section 4.2.8).
 pub const PAGE: usize = 65_536;
 
-/// Room for whole pages, taken once. Bytes are laid down in it from the beginning on, up to a mark that only rises; what lies behind the mark was never touched, and no call reads it.
+/// How many blocks a page has, each with a mark.
+const BLOCKS: usize = 16;
+
+/// Room for whole pages, taken once. Bytes are laid down in it from its beginning on, as far as any run has used it; what lies behind them was never touched, and no call reads it.
 ///
 /// For each block of 4,096 bytes one mark tells whether it was written since it was last made zero, so that no other block has to be made zero again.
 ///
@@ -50,7 +53,7 @@ impl Extent {
         requires { pages ≤ 16384 }
         ensures { IfOk result (λ extent. extent ≡ record { bytes = []; pages = pages }) }
     {
-        let marks = Vec::from_elem(alloc, false, pages as usize * 16)?;
+        let marks = Vec::from_elem(alloc, false, pages as usize * BLOCKS)?;
         let bytes = Vec::with_capacity(alloc, pages as usize * PAGE)?;
         Ok(Extent {
             bytes,
@@ -78,7 +81,7 @@ impl Extent {
         self.bytes.as_slice()
     }
 
-    /// Lays zeros down behind the mark so that there are at least so many bytes. It takes no memory.
+    /// Lays zeros down behind the others until there are at least so many bytes. It takes no memory.
     pub fn reach(&mut self, count: usize)
         requires { count ≤ self.old.pages * page }
         ensures { self.new ≡ record self.old { bytes = self.old.bytes ++ zeros (count - length self.old.bytes) } }
@@ -122,7 +125,7 @@ impl Extent {
         ensures { self.new ≡ record self.old { bytes = zeros (pages * page) ++ drop (pages * page) self.old.bytes } }
     {
         let _pages = self.pages;
-        rinse_blocks(&mut self.bytes, &mut self.marks, pages as usize * 16);
+        rinse_blocks(&mut self.bytes, &mut self.marks, pages as usize * BLOCKS);
     }
 
     /// How many blocks are marked.

@@ -1,5 +1,4 @@
-use Rattle.std.proofs.Common.{arith, ap, length, ◌∙◌, sym, subst, ◌≤◌, ◌*◌, ℕ}
-use Rattle.wasm_meaning.specs.Bytes.{page}
+use Rattle.std.proofs.Common.{arith, ◌∙◌}
 use Rattle.wasm_store.proofs.StripLemmas.{length-written}
 use Rattle.wasm_store.proofs.MarkLemmas.{told_written}
 use Rattle.wasm_store.proofs.extents.Extent.lay.Goals as goal

@@ -1,4 +1,4 @@
-use Rattle.std.proofs.Common.{arith, ◌≡◌, ◌+◌, ◌≤◌, ◌∙◌, length, subst, sym, ℕ}
+use Rattle.std.proofs.Common.{arith, ◌+◌, ◌≤◌, ◌∙◌, length, subst, sym, ℕ}
 use Rattle.wasm_store.specs.Marks.{Covers}
 use Rattle.wasm_store.proofs.StripLemmas.{length-written}
 use Rattle.wasm_store.proofs.MarkLemmas.{told_written}

@@ -225,6 +225,53 @@ sweep_more marks marks_before bytes before now block n size told fits marks_so_f
 pub marks_more : (marks before now : List Bool) (block : ℕ) → block < length marks → before ≡ swept block false marks → now ≡ set before block false → now ≡ swept (block + 1) false marks
 marks_more marks before now block below so_far step = step ∙ ap (λ (xs : List Bool). set xs block false) so_far ∙ swept_more block false marks below
 
+-- where the first marks are away, the bytes under them are zero
+pub told_front : (marks : List Bool) (bytes : List ℕ) (count : ℕ) → IsTold marks bytes → marks ≡ swept count false marks → count * 4096 ≤ length bytes → bytes ≡ swept (count * 4096) 0 bytes
+told_front marks bytes count told away fits =
+    same_number_lists bytes (swept (count * 4096) 0 bytes) (sym (length-swept (count * 4096) 0 bytes fits)) (λ place below.
+    ⊎_elim
+    (λ (lower : place < count * 4096).
+    let block : place / 4096 < count = omega (arith, lower) in
+    let off : get_or marks (place / 4096) true ≡ false =
+    ap (λ (xs : List Bool). get_or xs (place / 4096) true) away
+    ∙ get_or_append_left (replicate count false) (drop count marks) true (place / 4096) (omega (arith, length-replicate {A = Bool} count false, block))
+    ∙ get_or-replicate count (place / 4096) false true block
+    in
+    told place off ∙ sym (get_or_append_left (zeros (count * 4096)) (drop (count * 4096) bytes) 0 place (omega (arith, length-replicate {A = ℕ} (count * 4096) 0, lower)) ∙ told_zeros (count * 4096) place))
+    (λ (upper : count * 4096 ≤ place). sym (swept_read (count * 4096) 0 bytes place 0 upper))
+    (cases_lt place (count * 4096)))
+
+-- a run of marks that were away before
+pub marks_away : (marks : List Bool) (first count : ℕ) → marks ≡ swept first false marks → take count (drop first marks) ≡ replicate count false → marks ≡ swept (first + count) false marks
+marks_away marks first count away there =
+    away
+    ∙ ap (λ (xs : List Bool). replicate first false ++ xs) (sym (take-append-drop count (drop first marks)) ∙ ap (λ (xs : List Bool). xs ++ drop count (drop first marks)) there)
+    ∙ sym (append_assoc (replicate first false) (replicate count false) (drop count (drop first marks)))
+    ∙ ap (λ (xs : List Bool). xs ++ drop count (drop first marks)) (replicate-append-replicate first count false)
+    ∙ ap (λ (xs : List Bool). replicate (first + count) false ++ xs) (drop-drop count first marks)
+
+-- a page without a mark
+pub page_marks : (marks : List Bool) (page : ℕ) → marks ≡ swept (page * 16) false marks → take 16 (drop (page * 16) marks) ≡ replicate 16 false → marks ≡ swept ((page + 1) * 16) false marks
+page_marks marks page away there =
+    let next : page * 16 + 16 ≡ (page + 1) * 16 = omega arith in
+    marks_away marks (page * 16) 16 away there ∙ ap (λ (n : ℕ). swept n false marks) next
+
+pub page_bytes : (marks : List Bool) (bytes : List ℕ) (page : ℕ) → IsTold marks bytes → marks ≡ swept (page * 16) false marks → take 16 (drop (page * 16) marks) ≡ replicate 16 false → page * 65536 + 65536 ≤ length bytes → bytes ≡ swept ((page + 1) * 65536) 0 bytes
+page_bytes marks bytes page told away there fits =
+    let wide : (page + 1) * 16 * 4096 ≡ (page + 1) * 65536 = omega arith in
+    told_front marks bytes ((page + 1) * 16) told (page_marks marks page away there) (omega (arith, fits)) ∙ ap (λ (n : ℕ). swept n 0 bytes) wide
+
+-- what was swept further at once may be told of what was swept before
+pub swept_again : {X : Type 0} (n m : ℕ) (blank : X) (first before now : List X) → before ≡ swept n blank first → now ≡ swept m blank before → n ≤ m → n ≤ length first → now ≡ swept m blank first
+swept_again {X = X} n m blank first before now so_far step more within =
+    let rest : m - n + n ≡ m = omega (arith, more) in
+    let there : n + (m - n) ≡ m = omega (arith, more) in
+    step
+    ∙ ap (λ (xs : List X). replicate m blank ++ drop m xs) so_far
+    ∙ ap (λ (k : ℕ). replicate m blank ++ drop k (swept n blank first)) (sym there)
+    ∙ ap (λ (xs : List X). replicate m blank ++ xs) (sym (drop-drop (m - n) n (swept n blank first)) ∙ ap (λ (xs : List X). drop (m - n) xs) (drop_at (replicate n blank) (drop n first) n (length-replicate n blank)) ∙ drop-drop (m - n) n first)
+    ∙ ap (λ (k : ℕ). replicate m blank ++ drop k first) there
+
 -- what the marks tell after a rinse
 pub told_swept : (marks : List Bool) (bytes : List ℕ) (count : ℕ) → IsTold marks bytes → IsTold (swept count false marks) (swept (count * 4096) 0 bytes)
 told_swept marks bytes count told place off =

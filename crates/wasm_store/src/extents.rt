@@ -3,15 +3,12 @@ ghost use Rattle.std.specs.Prelude.{◌≡◌, ℕ, ◌-◌, ◌*◌, ◌≤◌,
 ghost use Rattle.wasm_meaning.specs.Bytes.{page, zeros, with_bytes};
 ghost use Rattle.wasm_store.specs.Memory.{Laid};
 
-use crate::marks::{count_set, mark_few, mark_run, rinse_blocks};
+use crate::marks::{BLOCKS, count_set, mark_few, mark_run, rinse_pages};
 use std::alloc::{AllocError, Global};
 use std::marker::Model;
 
 /// The size of a page in bytes (WebAssembly Core 1.0, section 4.2.8).
 pub const PAGE: usize = 65_536;
-
-/// How many blocks a page has, each with a mark.
-const BLOCKS: usize = 16;
 
 /// Room for whole pages, taken once. Bytes are laid down in it from its beginning on, as far as any run has used it; what lies behind them was never touched, and no call reads it.
 ///
@@ -125,7 +122,7 @@ impl Extent {
         ensures { self.new ≡ record self.old { bytes = zeros (pages * page) ++ drop (pages * page) self.old.bytes } }
     {
         let _pages = self.pages;
-        rinse_blocks(&mut self.bytes, &mut self.marks, pages as usize * BLOCKS);
+        rinse_pages(&mut self.bytes, &mut self.marks, pages as usize);
     }
 
     /// How many blocks are marked.

@@ -6,6 +6,9 @@ ghost use Rattle.wasm_store.specs.Marks.{IsTold, Covers, swept};
 /// The size of a block in bytes.
 const BLOCK: usize = 4_096;
 
+/// How many blocks a page has, each with a mark.
+pub const BLOCKS: usize = 16;
+
 /// Marks the blocks of so many bytes from a place on. There are no more than a block has.
 #[inline(always)]
 pub fn mark_few(marks: &mut Vec<bool>, at: usize, count: usize)
@@ -61,16 +64,50 @@ fn set_all(marks: &mut [bool])
     marks.fill(true);
 }
 
-/// Makes the first blocks zero, and takes their marks away. A block that is not marked is zero already, and is not touched.
-pub fn rinse_blocks(bytes: &mut Vec<u8>, marks: &mut Vec<bool>, count: usize)
-    requires there { count ≤ length marks.old.items }
-    requires fits { count * 4096 ≤ length bytes.old.items }
+/// Makes the first pages zero, and takes the marks of their blocks away. A block that is not marked is zero already, and is not touched.
+pub fn rinse_pages(bytes: &mut Vec<u8>, marks: &mut Vec<bool>, pages: usize)
+    requires there { pages * 16 ≤ length marks.old.items }
+    requires fits { pages * 65536 ≤ length bytes.old.items }
     requires told { IsTold marks.old.items bytes.old.items }
-    ensures bytes { bytes.new.items ≡ swept (count * 4096) 0 bytes.old.items }
-    ensures marks { marks.new.items ≡ swept count false marks.old.items }
+    ensures bytes { bytes.new.items ≡ swept (pages * 65536) 0 bytes.old.items }
+    ensures marks { marks.new.items ≡ swept (pages * 16) false marks.old.items }
     ensures room { vec_capacity bytes.new ≡ vec_capacity bytes.old }
 {
-    for block in 0..count {
+    for page in 0..pages {
+        rinse_page(bytes, marks, page);
+    }
+}
+
+// Makes a page zero, where those before it are. Most have no mark, so all of its marks are looked at together first.
+fn rinse_page(bytes: &mut Vec<u8>, marks: &mut Vec<bool>, page: usize)
+    requires there { page * 16 + 16 ≤ length marks.old.items }
+    requires fits { page * 65536 + 65536 ≤ length bytes.old.items }
+    requires told { IsTold marks.old.items bytes.old.items }
+    requires bytes { bytes.old.items ≡ swept (page * 65536) 0 bytes.old.items }
+    requires marks { marks.old.items ≡ swept (page * 16) false marks.old.items }
+    ensures bytes { bytes.new.items ≡ swept ((page + 1) * 65536) 0 bytes.old.items }
+    ensures marks { marks.new.items ≡ swept ((page + 1) * 16) false marks.old.items }
+    ensures room { vec_capacity bytes.new ≡ vec_capacity bytes.old }
+{
+    let first = page * BLOCKS;
+    if is_any_set(marks, first, BLOCKS) {
+        rinse_blocks(bytes, marks, first, first + BLOCKS);
+    }
+}
+
+// Makes the blocks from one to another zero, where those before them are.
+fn rinse_blocks(bytes: &mut Vec<u8>, marks: &mut Vec<bool>, first: usize, end: usize)
+    requires order { first ≤ end }
+    requires there { end ≤ length marks.old.items }
+    requires fits { end * 4096 ≤ length bytes.old.items }
+    requires told { IsTold marks.old.items bytes.old.items }
+    requires bytes { bytes.old.items ≡ swept (first * 4096) 0 bytes.old.items }
+    requires marks { marks.old.items ≡ swept first false marks.old.items }
+    ensures bytes { bytes.new.items ≡ swept (end * 4096) 0 bytes.old.items }
+    ensures marks { marks.new.items ≡ swept end false marks.old.items }
+    ensures room { vec_capacity bytes.new ≡ vec_capacity bytes.old }
+{
+    for block in first..end {
         rinse_block(bytes, marks, block);
     }
 }
@@ -106,6 +143,29 @@ fn wipe(bytes: &mut [u8])
     ensures { bytes.new ≡ zeros (length bytes.old) }
 {
     bytes.fill(0);
+}
+
+// Whether any of so many marks from one on is set.
+#[inline(always)]
+fn is_any_set(marks: &Vec<bool>, first: usize, count: usize) -> bool
+    requires { first + count ≤ length marks.now.items }
+    ensures { result ≡ false → take count (drop first marks.now.items) ≡ replicate count false }
+{
+    let (_, rest) = marks.split_at(first);
+    let (run, _) = rest.split_at(count);
+    has_set(run)
+}
+
+// Whether any mark is set. All are looked at, so that a processor can take many at once.
+#[inline(always)]
+fn has_set(marks: &[bool]) -> bool
+    ensures { result ≡ false → marks.now ≡ replicate (length marks.now) false }
+{
+    let mut any = false;
+    for mark in marks {
+        any = any | *mark;
+    }
+    any
 }
 
 /// How many marks are set.

@@ -156,6 +156,28 @@ fn growth_and_rinsing(rt: HostRuntime) -> Result<(), Fail> {
     Ok(())
 }
 
+// A store over the border of two blocks, one of a zero, and bytes that are copied in over a border.
+fn mark_and_rinse(rt: &impl Abort, vessel: &mut Vessel) {
+    assert_eq!(rt; grow(rt, vessel, 1, 1), Some(0));
+    assert_eq!(rt; vessel.marked(), 0);
+    assert!(rt; store(rt, vessel, 4_094, 4, 1));
+    assert_eq!(rt; vessel.marked(), 2);
+    assert!(rt; store(rt, vessel, 0, 1, 0));
+    assert_eq!(rt; vessel.marked(), 2);
+    assert!(rt; copy_in(vessel, 12_287, b"two"));
+    assert_eq!(rt; vessel.marked(), 4);
+    vessel.rinse();
+    assert_eq!(rt; vessel.marked(), 0);
+}
+
+#[test]
+fn marks(rt: HostRuntime) -> Result<(), Fail> {
+    let mut vessel = vessel(rt.alloc(), 1)?;
+    mark_and_rinse(&rt, &mut vessel);
+    drop(vessel);
+    Ok(())
+}
+
 fn set_globals(rt: &impl Abort, vessel: &mut Vessel)
     requires { length vessel.old.globals ≡ 0 }
 {

@@ -1,3 +1,4 @@
+pub mod MarkLemmas
 pub mod StackLemmas
 pub mod StripLemmas
 pub mod TableLemmas

@@ -1,6 +1,6 @@
 -- What the calls of a stack leave of its view.
 use Rattle.std.proofs.Common.{◌≡◌, ℕ, suc, ◌+◌, ◌-◌, ◌<◌, ◌≤◌, List, [], ◌∷◌, ◌++◌, length, get_or, set, take, drop, replicate, Some, sym, ap, ◌∙◌, arith, append_assoc}
-use Rattle.std.proofs.Math.Seq.{take-add}
+use Rattle.std.proofs.Math.Seq.{take-add, take-length}
 use Rattle.std.proofs.lemmas.List.{reverse-append, reverse-reverse, length-reverse, length-set, length-take-le, length-drop, take-append-drop, take_more, take_more_set, take_at, drop_at, get_or-take, get_or-reverse, set-append_left, replicate_more}
 use Rattle.std.proofs.lemmas.Option.{slice_get_read}
 use Rattle.std.specs.Prelude.{reverse}
@@ -12,6 +12,10 @@ abbrev pub stacked : {X : Type 0} → (count : ℕ) → (items : List X) → Lis
 stacked count items = reverse (take count items)
 
 module _ {X : Type 0} where
+  -- an item at the end is the top one
+  pub reverse_push : (items : List X) (x : X) → reverse (items ++ x ∷ []) ≡ x ∷ reverse items
+  reverse_push items x = reverse-append items (x ∷ [])
+
   pub length-stacked : (count : ℕ) (items : List X) → count ≤ length items → length (stacked count items) ≡ count
   length-stacked count items within = length-reverse (take count items) ∙ length-take-le count items within
 
@@ -83,11 +87,9 @@ module _ {X : Type 0} where
       let lower : i < count = omega (arith, long, length-stacked count items within) in
       stacked_set count items i x lower within ∙ ap (λ (xs : List X). reverse (set (reverse xs) i x)) same
 
-  pub taken_off : (count less : ℕ) (items seen : List X) → stacked count items ≡ seen → less ≤ length seen → count ≤ length items → stacked (count - less) items ≡ drop less seen
-  taken_off count less items seen same below within =
-      let long : length (stacked count items) ≡ length seen = ap length same in
-      let lower : count - less + less ≡ count = omega (arith, long, length-stacked count items within) in
-      let fits : count - less + less ≤ length items = omega (arith, lower, within) in
-      sym (stacked_drop (count - less) less items fits)
-      ∙ ap (λ (n : ℕ). drop less (stacked n items)) lower
-      ∙ ap (λ (xs : List X). drop less xs) same
+  -- the lowest items are those that are left when the others are taken off the top
+  pub reverse_taken : (items after seen : List X) (n less : ℕ) → after ≡ take n items → n + less ≡ length items → reverse items ≡ seen → reverse after ≡ drop less seen
+  reverse_taken items after seen n less taken all same =
+      let fits : n + less ≤ length items = omega (arith, all) in
+      let whole : stacked (n + less) items ≡ reverse items = ap (λ (k : ℕ). reverse (take k items)) all ∙ ap reverse (take-length items) in
+      ap reverse taken ∙ sym (stacked_drop n less items fits) ∙ ap (λ (xs : List X). drop less xs) (whole ∙ same)

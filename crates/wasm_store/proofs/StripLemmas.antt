@@ -1,5 +1,5 @@
 -- What a write, a growth and a clearing leave of a room and of the memory in it.
-use Rattle.std.proofs.Common.{◌≡◌, ℕ, ◌+◌, ◌-◌, ◌*◌, ◌/◌, ◌≤◌, List, [], ◌++◌, length, take, drop, refl, sym, ap, subst, ◌∙◌, arith, length-append}
+use Rattle.std.proofs.Common.{◌≡◌, ℕ, ◌+◌, ◌-◌, ◌*◌, ◌/◌, ◌≤◌, List, ◌++◌, length, take, drop, refl, sym, ap, subst, ◌∙◌, arith, length-append}
 use Rattle.std.proofs.Math.Seq.{take-add, take-length, take-append-add, drop-append-add}
 use Rattle.std.proofs.lemmas.List.{take-append-le, drop-append-le, take-append-drop, length-drop, length-replicate, length-take-le, take-take, drop-take, drop-drop, take-replicate, drop-replicate, replicate-append-replicate}
 use Rattle.wasm_meaning.specs.Bytes.{page, zeros, with_bytes, size_of}
@@ -20,6 +20,11 @@ length-with_bytes strip at bytes fits = omega (
   length-drop (at + length bytes) strip,
   fits,
 )
+
+pub length-written : (bytes now : List ℕ) (pages at : ℕ) (few : List ℕ) (seen : Laid) → record { bytes = bytes; pages = pages } ≡ seen → at + length few ≤ length seen.bytes → now ≡ with_bytes bytes at few → length now ≡ length bytes
+length-written bytes now pages at few seen same fits written =
+    let there : at + length few ≤ length bytes = subst (λ (room : Laid). at + length few ≤ length room.bytes) (sym same) fits in
+    ap length written ∙ length-with_bytes bytes at few there
 
 -- a write within the part in use is a write to that part
 take-with_bytes : (used : ℕ) (strip : List ℕ) (at : ℕ) (bytes : List ℕ) → at + length bytes ≤ used → used ≤ length strip → take used (with_bytes strip at bytes) ≡ with_bytes (take used strip) at bytes

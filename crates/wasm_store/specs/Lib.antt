@@ -1,4 +1,5 @@
 pub mod Calls
+pub mod Marks
 pub mod Memory
 pub mod Stacks
 pub mod View

@@ -1,5 +1,5 @@
 -- A linear memory as a list of bytes, in a strip that may be longer (WebAssembly Core 1.0, section 4.2.8).
-use Rattle.std.specs.Prelude.{ℕ, ◌≡◌, ◌-◌, ◌*◌, ◌/◌, ◌≤◌, ◌⊎◌, ◌++◌, if◌then◌else◌, List, length, take, drop, Option, Some, None}
+use Rattle.std.specs.Prelude.{ℕ, ◌≡◌, ◌-◌, ◌*◌, ◌≤◌, ◌⊎◌, ◌++◌, if◌then◌else◌, List, length, take, drop, Option, Some, None}
 use Rattle.wasm_meaning.specs.Bytes.{page, zeros, lies_in, with_bytes}
 
 -- the bytes in use, and how many pages the strip behind them has

@@ -63,7 +63,7 @@ impl CallStack {
     pub fn new(alloc: Global) -> Result<CallStack, AllocError>
         ensures { IfOk result (λ calls. calls ≡ record { function = 0; place = 0; used = 0; frames = [] }) }
     {
-        let callers = Stack::new(alloc, NO_FRAME)?;
+        let callers = Stack::new(alloc)?;
         Ok(CallStack {
             function: 0,
             place: 0,

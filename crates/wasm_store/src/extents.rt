@@ -1,38 +1,47 @@
 //! Room for whole pages, of which no more is touched than was ever used.
-ghost use Rattle.std.specs.Prelude.{◌≡◌, ℕ, ◌+◌, ◌-◌, ◌*◌, ◌<◌, ◌≤◌, ◌++◌, [], length, drop, IfOk};
+ghost use Rattle.std.specs.Prelude.{◌≡◌, ℕ, ◌-◌, ◌*◌, ◌≤◌, ◌+◌, ◌<◌, ◌++◌, [], length, drop, vec_capacity, IfOk};
 ghost use Rattle.wasm_meaning.specs.Bytes.{page, zeros, with_bytes};
 ghost use Rattle.wasm_store.specs.Memory.{Laid};
 
+use crate::marks::{BLOCKS, count_set, mark_few, mark_run, rinse_pages};
 use std::alloc::{AllocError, Global};
 use std::marker::Model;
 
 /// The size of a page in bytes (WebAssembly Core 1.0, section 4.2.8).
 pub const PAGE: usize = 65_536;
 
-/// Room for whole pages, taken once. Bytes are laid down in it from the beginning on, up to a mark that only rises; what lies behind the mark was never touched, and no call reads it.
+/// Room for whole pages, taken once. Bytes are laid down in it from its beginning on, as far as any run has used it; what lies behind them was never touched, and no call reads it.
+///
+/// For each block of 4,096 bytes one mark tells whether it was written since it was last made zero, so that no other block has to be made zero again.
 ///
 /// Contracts see the bytes that are laid down, and how many pages there is room for.
 pub struct Extent {
     bytes: Vec<u8>,
+    marks: Vec<bool>,
     pages: u32,
 }
 
 impl Drop for Extent {
     fn drop(self) {
-        let Extent { bytes: _, pages: _ } = self;
+        let Extent {
+            bytes: _,
+            marks: _,
+            pages: _,
+        } = self;
     }
 }
 
 impl Model for Extent {
-    ghost use Rattle.std.specs.Prelude.{◌*◌, ◌≤◌, length, vec_capacity};
+    ghost use Rattle.std.specs.Prelude.{◌≡◌, ◌*◌, ◌≤◌, length, vec_capacity};
     ghost use Rattle.wasm_meaning.specs.Bytes.{page};
     ghost use Rattle.wasm_store.specs.Memory.{Laid};
+    ghost use Rattle.wasm_store.specs.Marks.{IsTold};
 
     ghost Value = { Laid };
 
     ghost view = { λ extent. record { bytes = extent.bytes.items; pages = extent.pages } };
 
-    ghost invariant = { λ extent. (extent.pages * page ≤ vec_capacity extent.bytes) × (length extent.bytes.items ≤ extent.pages * page) × (extent.pages ≤ 16384) };
+    ghost invariant = { λ extent. (extent.pages * page ≤ vec_capacity extent.bytes) × (length extent.bytes.items ≤ extent.pages * page) × (extent.pages ≤ 16384) × (length extent.marks.items ≡ extent.pages * 16) × IsTold extent.marks.items extent.bytes.items };
 }
 
 impl Extent {
@@ -41,8 +50,13 @@ impl Extent {
         requires { pages ≤ 16384 }
         ensures { IfOk result (λ extent. extent ≡ record { bytes = []; pages = pages }) }
     {
+        let marks = Vec::from_elem(alloc, false, pages as usize * BLOCKS)?;
         let bytes = Vec::with_capacity(alloc, pages as usize * PAGE)?;
-        Ok(Extent { bytes, pages })
+        Ok(Extent {
+            bytes,
+            marks,
+            pages,
+        })
     }
 
     /// How many pages there is room for, at most 16,384.
@@ -64,7 +78,7 @@ impl Extent {
         self.bytes.as_slice()
     }
 
-    /// Lays zeros down behind the mark so that there are at least so many bytes. It takes no memory.
+    /// Lays zeros down behind the others until there are at least so many bytes. It takes no memory.
     pub fn reach(&mut self, count: usize)
         requires { count ≤ self.old.pages * page }
         ensures { self.new ≡ record self.old { bytes = self.old.bytes ++ zeros (count - length self.old.bytes) } }
@@ -78,36 +92,72 @@ impl Extent {
         }
     }
 
-    /// Writes bytes from a place on.
+    /// Writes bytes from a place on, and marks their blocks.
     pub fn lay(&mut self, at: usize, bytes: &[u8])
         requires { at + length bytes.now ≤ length self.old.bytes }
         ensures { self.new ≡ record self.old { bytes = with_bytes self.old.bytes at bytes.now } }
     {
-        let (_, rest) = self.bytes.split_at_mut(at);
-        let (there, _) = rest.split_at_mut(bytes.len());
-        there.copy_from_slice(bytes);
+        let _pages = self.pages;
+        mark_run(&mut self.marks, at, bytes.len());
+        put(&mut self.bytes, at, bytes);
     }
 
-    /// Writes a few bytes, of a number known when this is compiled, from a place on. All of them lie within the first `used` bytes, which were tested before.
+    /// Writes a few bytes, of a number known when this is compiled, from a place on, and marks their blocks. All of them lie within the first `used` bytes, which were tested before.
     #[inline(always)]
     pub fn lay_few<const N: usize>(&mut self, used: usize, at: usize, bytes: [u8; N])
+        requires some { 0 < length bytes }
+        requires few { length bytes ≤ 8 }
         requires within { used ≤ length self.old.bytes }
         requires fits { at + length bytes ≤ used }
         ensures { self.new ≡ record self.old { bytes = with_bytes self.old.bytes at bytes.entry } }
     {
-        let (in_use, _) = self.bytes.split_at_mut(used);
-        let (_, rest) = in_use.split_at_mut(at);
-        put_front(rest, bytes);
+        let _pages = self.pages;
+        mark_few(&mut self.marks, at, N);
+        put_few(&mut self.bytes, used, at, bytes);
     }
 
-    /// Makes so many bytes from the beginning zero. The mark stays where it is.
-    pub fn clear(&mut self, count: usize)
-        requires { count ≤ length self.old.bytes }
-        ensures { self.new ≡ record self.old { bytes = zeros count ++ drop count self.old.bytes } }
+    /// Makes the first pages zero: of their blocks it writes those that are marked, and takes their marks away. All bytes stay laid down.
+    pub fn rinse(&mut self, pages: u32)
+        requires { pages * page ≤ length self.old.bytes }
+        ensures { self.new ≡ record self.old { bytes = zeros (pages * page) ++ drop (pages * page) self.old.bytes } }
     {
-        let (front, _) = self.bytes.split_at_mut(count);
-        wipe(front);
+        let _pages = self.pages;
+        rinse_pages(&mut self.bytes, &mut self.marks, pages as usize);
     }
+
+    /// How many blocks are marked.
+    pub fn marked(&self) -> u32
+        ensures clean { result ≡ 0 → self.now.bytes ≡ zeros (length self.now.bytes) }
+        ensures most { result ≤ self.now.pages * 16 }
+    {
+        let _pages = self.pages;
+        count_set(self.marks.as_slice())
+    }
+}
+
+// Writes bytes from a place on.
+fn put(bytes: &mut Vec<u8>, at: usize, more: &[u8])
+    requires { at + length more.now ≤ length bytes.old.items }
+    ensures bytes { bytes.new.items ≡ with_bytes bytes.old.items at more.now }
+    ensures room { vec_capacity bytes.new ≡ vec_capacity bytes.old }
+{
+    let (_, rest) = bytes.split_at_mut(at);
+    let (there, _) = rest.split_at_mut(more.len());
+    there.copy_from_slice(more);
+}
+
+// Writes a few bytes from a place on, all of them within the first `used`.
+#[inline(always)]
+fn put_few<const N: usize>(bytes: &mut Vec<u8>, used: usize, at: usize, few: [u8; N])
+    requires within { used ≤ length bytes.old.items }
+    requires fits { at + length few ≤ used }
+    ensures bytes { bytes.new.items ≡ with_bytes bytes.old.items at few.entry }
+    ensures count { length few.entry ≡ N }
+    ensures room { vec_capacity bytes.new ≡ vec_capacity bytes.old }
+{
+    let (in_use, _) = bytes.split_at_mut(used);
+    let (_, rest) = in_use.split_at_mut(at);
+    put_front(rest, few);
 }
 
 // Writes a few bytes over the first ones.
@@ -120,11 +170,4 @@ fn put_front<const N: usize>(bytes: &mut [u8], few: [u8; N])
         Some(chunk) => *chunk = few,
         None => unreachable!(),
     }
-}
-
-// Makes all bytes zero.
-fn wipe(bytes: &mut [u8])
-    ensures { bytes.new ≡ zeros (length bytes.old) }
-{
-    bytes.fill(0);
 }

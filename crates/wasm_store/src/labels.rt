@@ -10,10 +10,3 @@ pub struct Label {
     /// Whether a branch takes a result along.
     pub result: bool,
 }
-
-/// A label that belongs to no block.
-pub const NO_LABEL: Label = Label {
-    target: 0,
-    height: 0,
-    result: false,
-};

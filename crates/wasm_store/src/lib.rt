@@ -10,6 +10,7 @@ mod extents;
 mod labels;
 pub mod laws;
 mod linear_memory;
+mod marks;
 mod reserved;
 mod stacks;
 mod strips;

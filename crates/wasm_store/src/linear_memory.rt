@@ -163,14 +163,25 @@ impl LinearMemory {
     pub fn rinse(&mut self)
         ensures { self.new ≡ record self.old { bytes = [] } }
     {
-        let used = self.size as usize * PAGE;
-        self.extent.clear(used);
+        let used = self.size;
+        self.extent.rinse(used);
         self.size = 0;
+    }
+
+    /// How many blocks of 4,096 bytes were written since the memory was last clean.
+    pub fn marked(&self) -> u32
+        ensures clean { result ≡ 0 → self.now.bytes ≡ zeros (length self.now.bytes) }
+        ensures most { result ≤ self.now.pages * 16 }
+    {
+        let _used = self.size;
+        self.extent.marked()
     }
 
     // A few bytes, of a number known when this is compiled: one comparison and one write.
     #[inline(always)]
     fn lay_few<const N: usize>(&mut self, at: u64, bytes: [u8; N]) -> bool
+        requires some { 0 < length bytes }
+        requires few { length bytes ≤ 8 }
         ensures answer { result ≡ lies_in self.old.bytes at N }
         ensures bytes { self.new ≡ record self.old { bytes = unwrap_or (laid self.old.bytes at bytes.entry) self.old.bytes } }
         ensures size { length self.new.bytes ≡ length self.old.bytes }
@@ -187,7 +198,9 @@ impl LinearMemory {
 
     #[inline(always)]
     fn lay_few_within<const N: usize>(&mut self, at: usize, bytes: [u8; N])
-        requires { at + length bytes ≤ length self.old.bytes }
+        requires some { 0 < length bytes }
+        requires few { length bytes ≤ 8 }
+        requires fits { at + length bytes ≤ length self.old.bytes }
         ensures bytes { self.new ≡ record self.old { bytes = with_bytes self.old.bytes at bytes.entry } }
         ensures size { length self.new.bytes ≡ length self.old.bytes }
     {

@@ -6,36 +6,35 @@ use std::marker::Model;
 
 /// Items in order, with room for a fixed number of them. Contracts see the list of its items.
 ///
-/// Items beyond the last stay in the room until others take their place; no call reads them.
+/// The room is taken when the list is made, and no part of it is touched before an item stands there.
 pub struct Reserved<T: Drop, const ROOM: usize> {
     items: Vec<T>,
-    count: u32,
 }
 
 impl<T: Drop, const ROOM: usize> Drop for Reserved<T, ROOM> {
     fn drop(self) {
-        let Reserved { items: _, count: _ } = self;
+        let Reserved { items: _ } = self;
     }
 }
 
 impl<T: Drop, const ROOM: usize> Model for Reserved<T, ROOM> {
-    ghost use Rattle.std.specs.Prelude.{◌≡◌, ◌^◌, ◌<◌, ◌≤◌, List, length, take};
+    ghost use Rattle.std.specs.Prelude.{◌^◌, ◌<◌, ◌≤◌, List, length, vec_capacity};
 
     ghost Value = { List T };
 
-    ghost view = { λ list. take list.count list.items.items };
+    ghost view = { λ list. list.items.items };
 
-    ghost invariant = { λ list. (length list.items.items ≡ ROOM) × (list.count ≤ ROOM) × (ROOM < 2 ^ 32) };
+    ghost invariant = { λ list. (length list.items.items ≤ ROOM) × (ROOM ≤ vec_capacity list.items) × (ROOM < 2 ^ 32) };
 }
 
 impl<T: Clone + Copy + Drop, const ROOM: usize> Reserved<T, ROOM> {
-    /// An empty list, whose room is filled with a blank item.
-    pub fn new(alloc: Global, blank: T) -> Result<Reserved<T, ROOM>, AllocError>
+    /// An empty list.
+    pub fn new(alloc: Global) -> Result<Reserved<T, ROOM>, AllocError>
         requires { ROOM < 2 ^ 32 }
         ensures { IfOk result (λ list. list ≡ []) }
     {
-        let items = Vec::from_elem(alloc, blank, ROOM)?;
-        Ok(Reserved { items, count: 0 })
+        let items = Vec::with_capacity(alloc, ROOM)?;
+        Ok(Reserved { items })
     }
 
     /// How many items there are.
@@ -44,8 +43,7 @@ impl<T: Clone + Copy + Drop, const ROOM: usize> Reserved<T, ROOM> {
         ensures count { result ≡ length self.now }
         ensures within { result ≤ ROOM }
     {
-        let _room = self.items.len();
-        self.count
+        self.items.len() as u32
     }
 
     /// Adds an item at the end.
@@ -54,8 +52,7 @@ impl<T: Clone + Copy + Drop, const ROOM: usize> Reserved<T, ROOM> {
         requires { length self.old < ROOM }
         ensures { self.new ≡ self.old ++ item ∷ [] }
     {
-        self.items[self.count as usize] = item;
-        self.count += 1;
+        self.items.push_reserved(item);
     }
 
     /// Adds the same item at the end so many times.
@@ -92,6 +89,6 @@ impl<T: Clone + Copy + Drop, const ROOM: usize> Reserved<T, ROOM> {
     pub fn clear(&mut self)
         ensures { self.new ≡ [] }
     {
-        self.count = 0;
+        self.items.clear();
     }
 }

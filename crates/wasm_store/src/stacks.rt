@@ -7,36 +7,35 @@ use std::marker::Model;
 
 /// Items one upon another, with room for a fixed number of them. Contracts see the list of its items, the top one first.
 ///
-/// Items beyond the top stay in the room until others take their place; no call reads them.
+/// The room is taken when the stack is made, and no part of it is touched before an item lies there.
 pub struct Stack<T: Drop, const ROOM: usize> {
     items: Vec<T>,
-    count: u32,
 }
 
 impl<T: Drop, const ROOM: usize> Drop for Stack<T, ROOM> {
     fn drop(self) {
-        let Stack { items: _, count: _ } = self;
+        let Stack { items: _ } = self;
     }
 }
 
 impl<T: Drop, const ROOM: usize> Model for Stack<T, ROOM> {
-    ghost use Rattle.std.specs.Prelude.{◌≡◌, ◌^◌, ◌<◌, ◌≤◌, List, length, take, reverse};
+    ghost use Rattle.std.specs.Prelude.{◌^◌, ◌<◌, ◌≤◌, List, length, reverse, vec_capacity};
 
     ghost Value = { List T };
 
-    ghost view = { λ stack. reverse (take stack.count stack.items.items) };
+    ghost view = { λ stack. reverse stack.items.items };
 
-    ghost invariant = { λ stack. (length stack.items.items ≡ ROOM) × (stack.count ≤ ROOM) × (ROOM < 2 ^ 32) };
+    ghost invariant = { λ stack. (length stack.items.items ≤ ROOM) × (ROOM ≤ vec_capacity stack.items) × (ROOM < 2 ^ 32) };
 }
 
 impl<T: Clone + Copy + Drop, const ROOM: usize> Stack<T, ROOM> {
-    /// An empty stack, whose room is filled with a blank item.
-    pub fn new(alloc: Global, blank: T) -> Result<Stack<T, ROOM>, AllocError>
+    /// An empty stack.
+    pub fn new(alloc: Global) -> Result<Stack<T, ROOM>, AllocError>
         requires { ROOM < 2 ^ 32 }
         ensures { IfOk result (λ stack. stack ≡ []) }
     {
-        let items = Vec::from_elem(alloc, blank, ROOM)?;
-        Ok(Stack { items, count: 0 })
+        let items = Vec::with_capacity(alloc, ROOM)?;
+        Ok(Stack { items })
     }
 
     /// How many items there are.
@@ -45,30 +44,30 @@ impl<T: Clone + Copy + Drop, const ROOM: usize> Stack<T, ROOM> {
         ensures count { result ≡ length self.now }
         ensures within { result ≤ ROOM }
     {
-        let _room = self.items.len();
-        self.count
+        self.items.len() as u32
     }
 
     /// Lays an item on top.
     #[inline(always)]
-    #[tactic(auto, using(crate::proofs::StackLemmas::stacked_push))]
+    #[tactic(auto, using(crate::proofs::StackLemmas::reverse_push))]
     pub fn push(&mut self, item: T)
         requires { length self.old < ROOM }
         ensures { self.new ≡ item ∷ self.old }
     {
-        self.items[self.count as usize] = item;
-        self.count += 1;
+        self.items.push_reserved(item);
     }
 
     /// Takes the top item off.
     #[inline(always)]
-    #[tactic(auto, using(crate::proofs::StackLemmas::stacked_pop))]
+    #[tactic(auto, using(crate::proofs::StackLemmas::reverse_push))]
     pub fn pop(&mut self) -> T
         requires { 0 < length self.old }
         ensures { self.old ≡ result ∷ self.new }
     {
-        self.count -= 1;
-        self.items[self.count as usize]
+        match self.items.pop() {
+            Some(item) => item,
+            None => unreachable!(),
+        }
     }
 
     /// The item that so many others lie on.
@@ -77,7 +76,7 @@ impl<T: Clone + Copy + Drop, const ROOM: usize> Stack<T, ROOM> {
         requires { above < length self.now }
         ensures { slice_get self.now above ≡ Some result }
     {
-        self.items[(self.count - 1 - above) as usize]
+        self.items[self.items.len() - 1 - above as usize]
     }
 
     /// The item that lies on so many others.
@@ -104,7 +103,7 @@ impl<T: Clone + Copy + Drop, const ROOM: usize> Stack<T, ROOM> {
         requires { count ≤ length self.old }
         ensures { self.new ≡ drop count self.old }
     {
-        self.count -= count;
+        self.items.truncate(self.items.len() - count as usize);
     }
 
     /// Leaves the lowest items, as many as `height`, and the top one on them if `keep` says so.
@@ -141,6 +140,6 @@ impl<T: Clone + Copy + Drop, const ROOM: usize> Stack<T, ROOM> {
     pub fn clear(&mut self)
         ensures { self.new ≡ [] }
     {
-        self.count = 0;
+        self.items.clear();
     }
 }

@@ -7,7 +7,7 @@ ghost use Rattle.wasm_store.specs.View.{empty, entered, returned, with_elements,
 ghost use Rattle.wasm_store.specs.declared.calls.Frame.{Frame};
 
 use crate::calls::{CallStack, Frame};
-use crate::labels::{Label, NO_LABEL};
+use crate::labels::Label;
 use crate::linear_memory::LinearMemory;
 use crate::reserved::Reserved;
 use crate::stacks::Stack;
@@ -32,10 +32,10 @@ impl Rooms {
         ensures { IfOk result (λ rooms. rooms ≡ record { globals = []; table = []; cells = []; labels = []; calls = record { function = 0; place = 0; used = 0; frames = [] }; start = None; main = None }) }
     {
         Ok(Rooms {
-            globals: Reserved::new(alloc, 0)?,
-            table: Reserved::new(alloc, None)?,
-            cells: Stack::new(alloc, 0)?,
-            labels: Stack::new(alloc, NO_LABEL)?,
+            globals: Reserved::new(alloc)?,
+            table: Reserved::new(alloc)?,
+            cells: Stack::new(alloc)?,
+            labels: Stack::new(alloc)?,
             calls: CallStack::new(alloc)?,
             start: None,
             main: None,
@@ -151,6 +151,14 @@ impl Vessel {
         ensures within { length result.now ≤ self.now.pages * page }
     {
         self.memory.touched()
+    }
+
+    /// How many blocks of 4,096 bytes were written since the vessel was last clean; a write of the bytes that stood there counts too. It takes no memory.
+    pub fn marked(&self) -> u32
+        ensures clean { result ≡ 0 → self.now.memory ≡ zeros (length self.now.memory) }
+        ensures most { result ≤ self.now.pages * 16 }
+    {
+        self.memory.marked()
     }
 
     /// The number in 1, 2, 4 or 8 bytes from a place on, the lowest first, or `None` where they leave the memory.

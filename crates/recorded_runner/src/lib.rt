@@ -20,3 +20,4 @@ mod settings;
 pub use played::{Played, Summary};
 pub use recording_format::{Event, Piece, Record, Recording, RecordingFault, read_recording};
 pub use replaying::replay;
+pub use settings::settings_of;

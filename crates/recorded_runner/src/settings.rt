@@ -7,8 +7,8 @@ ghost use Rattle.recorded_runner.specs.Serving.{AreRoomy};
 use serve_config::Config;
 use workers::Settings;
 
-/// The settings that a configuration has for a batch: its workers, quantum, policy and berths, each berth of the largest pages that a route has.
-pub(crate) fn settings_of(config: &Config) -> Settings
+/// The settings that a configuration has for a batch, and for a server: its workers, quantum, policy and berths, each berth of the largest pages that a route has.
+pub fn settings_of(config: &Config) -> Settings
     ensures workers { result.workers ≡ config.now.workers }
     ensures quantum { result.quantum ≡ config.now.quantum }
     ensures policy { result.policy ≡ config.now.policy }

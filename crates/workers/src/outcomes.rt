@@ -1,6 +1,7 @@
 //! What replies report of answers.
 ghost use Rattle.std.specs.Prelude.{◌≡◌};
 ghost use Rattle.http_front.specs.Reported.{IsOutcome, reported};
+ghost use Rattle.sandbox_states.specs.Views.{told};
 ghost use Rattle.workers.specs.Outcomes.{IsShort, reported_verdict};
 
 use http_front::Outcome;
@@ -14,7 +15,16 @@ pub fn outcome(answer: &Answer) -> Outcome<'_>
     ensures tells { IsOutcome result }
     ensures short { IsShort (reported result) }
 {
-    match answer.verdict() {
+    outcome_of(answer.verdict())
+}
+
+/// The same of a verdict alone.
+pub fn outcome_of(verdict: &Verdict) -> Outcome<'_>
+    ensures reports { reported result ≡ reported_verdict (told verdict.now) }
+    ensures tells { IsOutcome result }
+    ensures short { IsShort (reported result) }
+{
+    match verdict {
         Verdict::Replied(reply) => Outcome::Bytes(reply.bytes()),
         Verdict::Exit { code: 0, reply } => Outcome::Bytes(reply.bytes()),
         Verdict::Exit { code, .. } => Outcome::Exit(*code),

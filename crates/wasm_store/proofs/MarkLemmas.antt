@@ -1,12 +1,12 @@
 -- What marks tell of the bytes under them, after writes and after a rinse.
-use Rattle.std.proofs.Common.{◌≡◌, ℕ, ◌+◌, ◌-◌, ◌*◌, ◌/◌, ◌<◌, ◌≤◌, Bool, true, false, if◌then◌else◌, List, [], ◌∷◌, ◌++◌, length, get_or, set, take, drop, replicate, refl, sym, ap, subst, ◌∙◌, arith, append_assoc, length-append, ⊎_elim}
+use Rattle.std.proofs.Common.{◌≡◌, ℕ, zero, suc, nat_eq, ◌+◌, ◌-◌, ◌*◌, ◌/◌, ◌<◌, ◌≤◌, Bool, true, false, if◌then◌else◌, List, [], ◌∷◌, ◌++◌, length, get_or, set, take, drop, replicate, refl, sym, ap, subst, ◌∙◌, arith, append_assoc, length-append, ⊎_elim}
 use Rattle.std.proofs.lemmas.Bool.{both_ways, cases_lt, cases_eq, cases_Bool}
 use Rattle.std.proofs.lemmas.Grind.{same_number_lists}
 use Rattle.std.proofs.lemmas.List.{get_or-append_right, get_or_append_left, get_or_past, get_or-replicate, get_or-take, get_or-drop, get_or-set_same, get_or-set_other, set_at, drop_at, take_at, drop_more, drop-drop, replicate_more, replicate-append-replicate, length-replicate, length-take-le, take-append-drop, length-drop, length-set}
-use Rattle.std.proofs.lemmas.List.Sums.{get_or-le-sum_by}
-use Rattle.std.specs.List.{count_by}
-use Rattle.wasm_meaning.specs.Bytes.{zeros, with_bytes}
-use Rattle.wasm_store.specs.Marks.{IsTold, Covers, swept}
+use Rattle.std.proofs.lemmas.List.Sums.{sum_by_more, sum_by-take-le, get_or-le-sum_by}
+use Rattle.std.specs.List.{count_by, list_all}
+use Rattle.wasm_meaning.specs.Bytes.{zeros, bytes_at, with_bytes}
+use Rattle.wasm_store.specs.Marks.{IsTold, Covers, swept, written}
 use Rattle.wasm_store.specs.Memory.{Laid}
 
 -- zeros are zero, and so is what stands behind them
@@ -303,3 +303,48 @@ told_clean marks bytes told fits none =
 
 pub told_seen : (marks : List Bool) (bytes : List ℕ) (pages : ℕ) (seen : Laid) → record { bytes = bytes; pages = pages } ≡ seen → IsTold marks bytes → length bytes ≤ length marks * 4096 → count_by (λ (mark : Bool). mark) marks ≡ 0 → seen.bytes ≡ zeros (length seen.bytes)
 told_seen marks bytes pages seen same told fits none = subst (λ (room : Laid). room.bytes ≡ zeros (length room.bytes)) same (told_clean marks bytes told fits none)
+
+-- zeros are all zero
+all_zero : (n : ℕ) → list_all (λ byte. nat_eq byte 0) (zeros n) ≡ true
+all_zero zero = refl
+all_zero (suc n) = all_zero n
+
+-- the first bytes are told of by the same marks
+told_taken : (marks : List Bool) (bytes : List ℕ) (used : ℕ) → IsTold marks bytes → used ≤ length bytes → IsTold marks (take used bytes)
+told_taken marks bytes used told fits place off =
+    ⊎_elim
+    (λ (below : place < used). get_or-take used bytes place 0 below ∙ told place off)
+    (λ (past : used ≤ place). get_or_past (take used bytes) place 0 (omega (arith, length-take-le used bytes fits, past)))
+    (cases_lt place used)
+
+block_counts : (mark clean : Bool) → (mark ≡ false → clean ≡ true) → (if clean then 0 else 1) ≤ (if mark then 1 else 0)
+block_counts true true _ = omega arith
+block_counts true false _ = omega arith
+block_counts false true _ = omega arith
+block_counts false false told = absurd (both_ways false refl (told refl))
+
+-- each block that is not zero is marked
+written_set : (marks : List Bool) (bytes : List ℕ) (n : ℕ) → IsTold marks bytes → n ≤ length marks → n * 4096 ≤ length bytes → written n bytes ≤ count_by (λ (mark : Bool). mark) (take n marks)
+written_set marks bytes zero told few fits = omega arith
+written_set marks bytes (suc n) told few fits =
+    let so_far = written_set marks bytes n told (omega (arith, few)) (omega (arith, fits)) in
+    let below : n < length marks = omega (arith, few) in
+    let there : n * 4096 + 4096 ≤ length bytes = omega (arith, fits) in
+    let next : n + 1 ≡ suc n = omega arith in
+    let more = sum_by_more (λ (mark : Bool). if mark then 1 else 0) marks n true below in
+    let counted : count_by (λ (mark : Bool). mark) (take (suc n) marks) ≡ count_by (λ (mark : Bool). mark) (take n marks) + (if get_or marks n true then 1 else 0) =
+    ap (λ (k : ℕ). count_by (λ (mark : Bool). mark) (take k marks)) (sym next) ∙ more
+    in
+    let clean : get_or marks n true ≡ false → list_all (λ byte. nat_eq byte 0) (bytes_at bytes (n * 4096) 4096) ≡ true =
+    λ off. ap (λ (xs : List ℕ). list_all (λ byte. nat_eq byte 0) xs) (told_block marks bytes n 4096 told refl there off) ∙ all_zero 4096
+    in
+    let one = block_counts (get_or marks n true) (list_all (λ byte. nat_eq byte 0) (bytes_at bytes (n * 4096) 4096)) clean in
+    omega (arith, so_far, counted, one)
+
+pub written_marked : (marks : List Bool) (bytes : List ℕ) (pages result : ℕ) (seen : Laid) → record { bytes = bytes; pages = pages } ≡ seen → IsTold marks bytes → length bytes ≤ length marks * 4096 → count_by (λ (mark : Bool). mark) marks ≡ result → (used : ℕ) → used ≤ length seen.bytes → written (used / 4096) (take used seen.bytes) ≤ result
+written_marked marks bytes pages result seen same told room counted used fits =
+    let there : used ≤ length bytes = subst (λ (r : Laid). used ≤ length r.bytes) (sym same) fits in
+    let long = length-take-le used bytes there in
+    let most = written_set marks (take used bytes) (used / 4096) (told_taken marks bytes used told there) (omega (arith, there, room)) (omega (arith, long)) in
+    let all = sum_by-take-le (λ (mark : Bool). if mark then 1 else 0) marks (used / 4096) in
+    subst (λ (r : Laid). written (used / 4096) (take used r.bytes) ≤ result) same (omega (arith, most, all, counted))

@@ -1,6 +1,7 @@
 //! Room for whole pages, of which no more is touched than was ever used.
-ghost use Rattle.std.specs.Prelude.{◌≡◌, ℕ, ◌-◌, ◌*◌, ◌≤◌, ◌+◌, ◌<◌, ◌++◌, [], length, drop, vec_capacity, IfOk};
+ghost use Rattle.std.specs.Prelude.{◌≡◌, ℕ, ◌-◌, ◌*◌, ◌/◌, ◌≤◌, ◌+◌, ◌<◌, ◌++◌, [], length, take, drop, vec_capacity, IfOk};
 ghost use Rattle.wasm_meaning.specs.Bytes.{page, zeros, with_bytes};
+ghost use Rattle.wasm_store.specs.Marks.{written};
 ghost use Rattle.wasm_store.specs.Memory.{Laid};
 
 use crate::marks::{BLOCKS, count_set, mark_few, mark_run, rinse_pages};
@@ -128,6 +129,7 @@ impl Extent {
     /// How many blocks are marked.
     pub fn marked(&self) -> u32
         ensures clean { result ≡ 0 → self.now.bytes ≡ zeros (length self.now.bytes) }
+        ensures least { (used : ℕ) → used ≤ length self.now.bytes → written (used / 4096) (take used self.now.bytes) ≤ result }
         ensures most { result ≤ self.now.pages * 16 }
     {
         let _pages = self.pages;

@@ -4,6 +4,7 @@ ghost use Rattle.std.specs.Fn.{FnOnceReturnsAtMut};
 
 use crate::strips::Strip;
 use crate::vessel::Vessel;
+use std::marker::{Send, Sync};
 
 /// Two strips share no byte: whatever a call does to one leaves the other as it was.
 pub fn strips_are_apart<F: FnOnce(&mut Strip)>(one: &mut Strip, _other: &mut Strip, call: F)
@@ -22,3 +23,16 @@ pub fn vessels_are_apart<F: FnOnce(&mut Vessel)>(one: &mut Vessel, _other: &mut 
 {
     call(one);
 }
+
+/// A strip may be sent to another thread, and looked at by several.
+pub fn strips_cross_threads(strip: &Strip) {
+    crosses_threads(strip);
+}
+
+/// So may a vessel.
+pub fn vessels_cross_threads(vessel: &Vessel) {
+    crosses_threads(vessel);
+}
+
+// Takes what may cross threads, and nothing else.
+fn crosses_threads<T: Send + Sync>(_value: &T) {}

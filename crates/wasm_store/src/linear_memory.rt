@@ -1,6 +1,7 @@
 //! A linear memory: the part of a strip that is in use.
 ghost use Rattle.std.specs.Prelude.{◌≡◌, ℕ, ◌+◌, ◌-◌, ◌*◌, ◌/◌, ◌^◌, ◌<◌, ◌≤◌, ◌++◌, [], length, if◌then◌else◌, option_map, unwrap_or, IfSome, nat_le, Some, None};
 ghost use Rattle.wasm_meaning.specs.Bytes.{page, zeros, lies_in, bytes_at, with_bytes, loaded, stored, size_of, grown};
+ghost use Rattle.wasm_store.specs.Marks.{written};
 ghost use Rattle.wasm_store.specs.Memory.{IsWidth, laid};
 
 use crate::extents::{Extent, PAGE};
@@ -171,6 +172,7 @@ impl LinearMemory {
     /// How many blocks of 4,096 bytes were written since the memory was last clean.
     pub fn marked(&self) -> u32
         ensures clean { result ≡ 0 → self.now.bytes ≡ zeros (length self.now.bytes) }
+        ensures least { written (length self.now.bytes / 4096) self.now.bytes ≤ result }
         ensures most { result ≤ self.now.pages * 16 }
     {
         let _used = self.size;

@@ -1,6 +1,7 @@
 //! All that a running function has.
 ghost use Rattle.std.specs.Prelude.{◌≡◌, ℕ, ◌+◌, ◌-◌, ◌*◌, ◌/◌, ◌^◌, ◌<◌, ◌≤◌, ◌++◌, [], ◌∷◌, length, drop, reverse, replicate, slice_get, slice_set, nat_le, if◌then◌else◌, unwrap_or, option_to_list, IfSome, IfOk, IfErr, Some, None};
 ghost use Rattle.wasm_meaning.specs.Bytes.{page, zeros, lies_in, bytes_at, loaded, stored, size_of, grown};
+ghost use Rattle.wasm_store.specs.Marks.{written};
 ghost use Rattle.wasm_store.specs.Memory.{IsWidth, laid};
 ghost use Rattle.wasm_store.specs.Stacks.{cut, kept};
 ghost use Rattle.wasm_store.specs.View.{empty, entered, returned, with_elements, IsClean};
@@ -156,6 +157,7 @@ impl Vessel {
     /// How many blocks of 4,096 bytes were written since the vessel was last clean; a write of the bytes that stood there counts too. It takes no memory.
     pub fn marked(&self) -> u32
         ensures clean { result ≡ 0 → self.now.memory ≡ zeros (length self.now.memory) }
+        ensures least { written (length self.now.memory / 4096) self.now.memory ≤ result }
         ensures most { result ≤ self.now.pages * 16 }
     {
         self.memory.marked()

@@ -39,6 +39,22 @@ unknown = refl
 reserved : item_from 0 [] (record { at = 1; left = 0x3F ∷ 0x01 ∷ []; cut = CutShort }) ≡ Err (fault_at refusal.Reserved 2)
 reserved = refl
 
+-- the prefix of a float operator and of one that is not known, whatever is behind its number
+saturated : item_from 0 [] (record { at = 1; left = 0xFC ∷ 0x07 ∷ []; cut = CutShort }) ≡ Err (fault_at refusal.FloatOperator 1)
+saturated = refl
+
+no_such : item_from 0 [] (record { at = 1; left = 0xFC ∷ 0x08 ∷ []; cut = CutShort }) ≡ Err (fault_at refusal.UnknownOperator 1)
+no_such = refl
+
+-- call_indirect of the only table, whose index is padded, and of another one
+indirect
+    : item_from 0 [] (record { at = 1; left = 0x11 ∷ 0x02 ∷ 0x80 ∷ 0x00 ∷ []; cut = CutShort })
+    ≡ Ok ((item.Operator (op.CallIndirect 2), []), record { at = 5; left = []; cut = CutShort })
+indirect = refl
+
+other_table : item_from 0 [] (record { at = 1; left = 0x11 ∷ 0x02 ∷ 0x81 ∷ 0x00 ∷ []; cut = CutShort }) ≡ Err (fault_at refusal.Reserved 3)
+other_table = refl
+
 -- two groups of locals, and a group by which there are too many
 groups
     : locals_from (record { at = 0; left = 0x02 ∷ 0x02 ∷ 0x7F ∷ 0x01 ∷ 0x7E ∷ 0x0B ∷ []; cut = CutShort })

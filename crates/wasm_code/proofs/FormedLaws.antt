@@ -15,14 +15,14 @@ use Rattle.wasm_ops.specs.WellFormed.{IsAccess, IsOperator}
 use Rattle.wasm_ops.proofs.ByteLaws.{spelt_below, spelt_bytes}
 use Rattle.wasm_code.specs.declared.items.Item.TheVariants as item
 use Rattle.wasm_code.specs.declared.forms.Form.{Form}
-use Rattle.wasm_code.specs.declared.forms.Form.TheVariants.{Operator, Labels, Opens, Else, End}
+use Rattle.wasm_code.specs.declared.forms.Form.TheVariants.{Operator, Labels, Prefixed, Opens, Else, End}
 use Rattle.wasm_code.specs.declared.forms.Layout.{Layout}
 use Rattle.wasm_code.specs.declared.forms.Layout.TheVariants.{Bare, Index, Load, Store, Reserved, I32Const, I64Const, IndirectCall, Float, Unknown}
 use Rattle.wasm_code.specs.declared.forms.Indexed.{Indexed}
 use Rattle.wasm_code.specs.declared.forms.Indexed.TheVariants as indexed
-use Rattle.wasm_code.specs.Forms.{Rows, control_rows, variable_rows, load_rows, store_rows, look_up, row_of, is_float_op, form_with, form_of, with_index}
+use Rattle.wasm_code.specs.Forms.{Rows, control_rows, variable_rows, load_rows, store_rows, look_up, row_of, is_float_op, form_with, form_of, with_index, behind_prefix}
 use Rattle.wasm_code.specs.Reading.{ReadsByte}
-use Rattle.wasm_code.specs.Layouts.{ReadsZero, ReadsIndex, ReadsAddress, ReadsLayout}
+use Rattle.wasm_code.specs.Layouts.{ReadsZero, ReadsOnly, ReadsIndex, ReadsAddress, ReadsLayout, ReadsPrefixed}
 use Rattle.wasm_code.specs.Items.{Parsed, ReadsLabels, ReadsForm, ReadsItem}
 
 -- What is behind each part are bytes again.
@@ -40,6 +40,10 @@ same_bytes a b e are = subst (λ (z : Input). AreBytes z.left) (sym e) are
 
 zero_bytes : (o : Op) (before : Input) (operator : Op) (after : Input) → AreBytes before.left → ReadsZero o before operator after → AreBytes after.left
 zero_bytes o before operator after are reads = same_bytes after reads.1 reads.3.2 (byte_bytes before reads.0 reads.1 are reads.2)
+
+only_bytes : (o : Op) (before : Input) (operator : Op) (after : Input) → AreBytes before.left → ReadsOnly o before operator after → AreBytes after.left
+only_bytes o before operator after are reads =
+    same_bytes after reads.1 reads.3.2 (number_bytes Unsigned 32 before reads.0 reads.1 are reads.2)
 
 index_bytes : (with : ℕ → Op) (before : Input) (operator : Op) (after : Input) → AreBytes before.left → ReadsIndex with before operator after → AreBytes after.left
 index_bytes with before operator after are reads = number_bytes Unsigned 32 before reads.0 after are reads.1
@@ -61,9 +65,14 @@ layout_bytes (Reserved o) before operator after are reads = zero_bytes o before 
 layout_bytes I32Const before operator after are reads = number_bytes Signed 32 before reads.0 after are reads.1
 layout_bytes I64Const before operator after are reads = number_bytes Signed 64 before reads.0 after are reads.1
 layout_bytes IndirectCall before operator after are reads =
-    zero_bytes (op.CallIndirect reads.0) reads.1 operator after (number_bytes Unsigned 32 before reads.0 reads.1 are reads.2) reads.3
+    only_bytes (op.CallIndirect reads.0) reads.1 operator after (number_bytes Unsigned 32 before reads.0 reads.1 are reads.2) reads.3
 layout_bytes Float before operator after are reads = absurd reads
 layout_bytes Unknown before operator after are reads = absurd reads
+
+prefixed_bytes
+    : (before : Input) (operator : Op) (after : Input) → AreBytes before.left → ReadsPrefixed before operator after → AreBytes after.left
+prefixed_bytes before operator after are reads =
+    layout_bytes (behind_prefix reads.0) reads.1 operator after (number_bytes Unsigned 32 before reads.0 reads.1 are reads.2) reads.3
 
 labels_bytes : (labels : List ℕ) (before after : Input) → AreBytes before.left → ReadsLabels labels before after → AreBytes after.left
 labels_bytes [] before after are reads = same_bytes after before reads are
@@ -74,6 +83,7 @@ form_bytes
     : (form : Form) (depth : ℕ) (targets : List ℕ) (before : Input) (parsed : Parsed) (after : Input) → AreBytes before.left
     → ReadsForm form depth targets before parsed after → AreBytes after.left
 form_bytes (Operator layout) depth targets before parsed after are reads = layout_bytes layout before reads.0 after are reads.1
+form_bytes Prefixed depth targets before parsed after are reads = prefixed_bytes before reads.0 after are reads.1
 form_bytes Labels depth targets before parsed after are reads =
     let adds = reads.3.1.1 in
     labels_bytes adds.0 reads.1 after (number_bytes Unsigned 32 before reads.0 reads.1 are reads.2) adds.2
@@ -173,7 +183,7 @@ store_formed = (
       (one_byte I32 false, refl),
       (
         (two_bytes I32 false, refl),
-        ((one_byte I64 false, refl), ((two_bytes I64 false, refl), ((four_of_i64 false, refl), (λ n. tt, (λ n. tt, (tt, (tt, tt))))))),
+        ((one_byte I64 false, refl), ((two_bytes I64 false, refl), ((four_of_i64 false, refl), (λ n. tt, (λ n. tt, (tt, (tt, (tt, tt)))))))),
       ),
     ),
   ),
@@ -204,6 +214,13 @@ form_with_formed byte None does =
 
 form_formed : (byte : ℕ) → IsFormed (form_of byte)
 form_formed byte = form_with_formed byte (operation_of byte) refl
+
+chosen_layout : (b : Bool) (x y : Layout) → IsFormedLayout x → IsFormedLayout y → IsFormedLayout (if b then x else y)
+chosen_layout true x y p q = p
+chosen_layout false x y p q = q
+
+prefix_formed : (code : ℕ) → IsFormedLayout (behind_prefix code)
+prefix_formed code = chosen_layout (nat_lt code 8) Float Unknown tt tt
 
 -- So is each operator that is read.
 
@@ -245,6 +262,13 @@ form_operator (Operator layout) depth targets before parsed after o are is reads
     let first = ap (λ (r : Parsed). r.0) reads.2 in
     let same : o ≡ reads.0 = cc in
     same_formed (length parsed.1) o reads.0 same (layout_formed layout (length parsed.1) before reads.0 after are is reads.1)
+form_operator Prefixed depth targets before parsed after o are is reads e =
+    let first = ap (λ (r : Parsed). r.0) reads.2 in
+    let same : o ≡ reads.0 = cc in
+    let spelt = reads.1 in
+    same_formed (length parsed.1) o reads.0 same
+    (layout_formed (behind_prefix spelt.0) (length parsed.1) spelt.1 reads.0 after (number_bytes Unsigned 32 before spelt.0 spelt.1 are spelt.2)
+    (prefix_formed spelt.0) spelt.3)
 form_operator Labels depth targets before parsed after o are is reads e =
     let first = ap (λ (r : Parsed). r.0) reads.3.1.2 in
     let same : o ≡ op.BrTable (length targets) reads.0 = cc in
@@ -274,6 +298,7 @@ form_grows
     : (form : Form) (depth : ℕ) (targets : List ℕ) (before : Input) (parsed : Parsed) (after : Input) → ReadsForm form depth targets before parsed after
     → length targets ≤ length parsed.1
 form_grows (Operator layout) depth targets before parsed after reads = let same = ap (λ (r : Parsed). length r.1) reads.2 in omega arith
+form_grows Prefixed depth targets before parsed after reads = let same = ap (λ (r : Parsed). length r.1) reads.2 in omega arith
 form_grows Labels depth targets before parsed after reads =
     let adds = reads.3.1.1 in
     let all = ap (λ (xs : List ℕ). length xs) adds.3 in

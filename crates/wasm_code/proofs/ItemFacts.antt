@@ -13,14 +13,14 @@ use Rattle.wasm_ops.specs.Sequence.{IsPlain}
 use Rattle.wasm_ops.proofs.InputLaws.{spelt-shorter}
 use Rattle.wasm_code.specs.declared.items.Item.TheVariants as item
 use Rattle.wasm_code.specs.declared.forms.Form.{Form}
-use Rattle.wasm_code.specs.declared.forms.Form.TheVariants.{Operator, Labels, Opens, Else, End}
+use Rattle.wasm_code.specs.declared.forms.Form.TheVariants.{Operator, Labels, Prefixed, Opens, Else, End}
 use Rattle.wasm_code.specs.declared.forms.Layout.{Layout}
 use Rattle.wasm_code.specs.declared.forms.Layout.TheVariants.{Bare, Index, Load, Store, Reserved, I32Const, I64Const, IndirectCall, Float, Unknown}
 use Rattle.wasm_code.specs.declared.forms.Indexed.{Indexed}
 use Rattle.wasm_code.specs.declared.forms.Indexed.TheVariants as indexed
-use Rattle.wasm_code.specs.Forms.{Rows, control_rows, variable_rows, load_rows, store_rows, look_up, row_of, is_float_op, form_with, form_of, with_index}
+use Rattle.wasm_code.specs.Forms.{Rows, control_rows, variable_rows, load_rows, store_rows, look_up, row_of, is_float_op, form_with, form_of, with_index, behind_prefix}
 use Rattle.wasm_code.specs.Reading.{ReadsByte}
-use Rattle.wasm_code.specs.Layouts.{ReadsZero, ReadsIndex, ReadsAddress, ReadsLayout}
+use Rattle.wasm_code.specs.Layouts.{ReadsZero, ReadsOnly, ReadsIndex, ReadsAddress, ReadsLayout, ReadsPrefixed}
 use Rattle.wasm_code.specs.Locals.{Group, ReadsGroups, ReadsLocals}
 use Rattle.wasm_code.specs.Items.{Parsed, branch_table, ReadsLabels, ReadsForm, ReadsItem}
 
@@ -39,6 +39,12 @@ zero_shorter
     : (o : Op) (before : Input) (operator : Op) (after : Input) → ReadsZero o before operator after → length after.left ≤ length before.left
 zero_shorter o before operator after reads =
     let shorter = byte_shorter before reads.0 reads.1 reads.2 in
+    let same = same_left after reads.1 reads.3.2 in omega arith
+
+only_shorter
+    : (o : Op) (before : Input) (operator : Op) (after : Input) → ReadsOnly o before operator after → length after.left ≤ length before.left
+only_shorter o before operator after reads =
+    let shorter = number_shorter Unsigned 32 before reads.0 reads.1 reads.2 in
     let same = same_left after reads.1 reads.3.2 in omega arith
 
 index_shorter
@@ -66,9 +72,15 @@ layout_shorter I32Const before operator after reads = let shorter = number_short
 layout_shorter I64Const before operator after reads = let shorter = number_shorter Signed 64 before reads.0 after reads.1 in omega arith
 layout_shorter IndirectCall before operator after reads =
     let shorter = number_shorter Unsigned 32 before reads.0 reads.1 reads.2 in
-    let further = zero_shorter (op.CallIndirect reads.0) reads.1 operator after reads.3 in omega arith
+    let further = only_shorter (op.CallIndirect reads.0) reads.1 operator after reads.3 in omega arith
 layout_shorter Float before operator after reads = absurd reads
 layout_shorter Unknown before operator after reads = absurd reads
+
+prefixed_shorter
+    : (before : Input) (operator : Op) (after : Input) → ReadsPrefixed before operator after → length after.left ≤ length before.left
+prefixed_shorter before operator after reads =
+    let shorter = number_shorter Unsigned 32 before reads.0 reads.1 reads.2 in
+    let further = layout_shorter (behind_prefix reads.0) reads.1 operator after reads.3 in omega arith
 
 -- each label takes a byte at least
 labels_shorter
@@ -82,6 +94,7 @@ form_shorter
     : (form : Form) (depth : ℕ) (targets : List ℕ) (before : Input) (parsed : Parsed) (after : Input) → ReadsForm form depth targets before parsed after
     → length after.left ≤ length before.left
 form_shorter (Operator layout) depth targets before parsed after reads = layout_shorter layout before reads.0 after reads.1
+form_shorter Prefixed depth targets before parsed after reads = prefixed_shorter before reads.0 after reads.1
 form_shorter Labels depth targets before parsed after reads =
     let shorter = number_shorter Unsigned 32 before reads.0 reads.1 reads.2 in
     let adds = reads.3.1.1 in
@@ -184,6 +197,13 @@ layout_plain IndirectCall before operator after is reads = same_plain operator (
 layout_plain Float before operator after is reads = absurd reads
 layout_plain Unknown before operator after is reads = absurd reads
 
+chosen_layout : (b : Bool) (x y : Layout) → LayoutIsPlain x → LayoutIsPlain y → LayoutIsPlain (if b then x else y)
+chosen_layout true x y p q = p
+chosen_layout false x y p q = q
+
+prefix_plain : (code : ℕ) → LayoutIsPlain (behind_prefix code)
+prefix_plain code = chosen_layout (nat_lt code 8) Float Unknown tt tt
+
 form_operator
     : (form : Form) (depth : ℕ) (targets : List ℕ) (before : Input) (parsed : Parsed) (after : Input) (o : Op)
     → FormIsPlain form → ReadsForm form depth targets before parsed after → parsed.0 ≡ item.Operator o → IsPlain o
@@ -191,6 +211,11 @@ form_operator (Operator layout) depth targets before parsed after o is reads e =
     let first = ap (λ (r : Parsed). r.0) reads.2 in
     let same : o ≡ reads.0 = cc in
     same_plain o reads.0 same (layout_plain layout before reads.0 after is reads.1)
+form_operator Prefixed depth targets before parsed after o is reads e =
+    let first = ap (λ (r : Parsed). r.0) reads.2 in
+    let same : o ≡ reads.0 = cc in
+    let spelt = reads.1 in
+    same_plain o reads.0 same (layout_plain (behind_prefix spelt.0) spelt.1 reads.0 after (prefix_plain spelt.0) spelt.3)
 form_operator Labels depth targets before parsed after o is reads e =
     let first = ap (λ (r : Parsed). r.0) reads.3.1.2 in
     let same : o ≡ op.BrTable (length targets) reads.0 = cc in
@@ -218,6 +243,9 @@ form_few
     → length parsed.1 + length after.left ≤ length targets + length before.left
 form_few (Operator layout) depth targets before parsed after reads =
     let shorter = form_shorter (Operator layout) depth targets before parsed after reads in
+    let same = same_targets parsed (item.Operator reads.0, targets) reads.2 in omega arith
+form_few Prefixed depth targets before parsed after reads =
+    let shorter = form_shorter Prefixed depth targets before parsed after reads in
     let same = same_targets parsed (item.Operator reads.0, targets) reads.2 in omega arith
 form_few Labels depth targets before parsed after reads =
     let shorter = number_shorter Unsigned 32 before reads.0 reads.1 reads.2 in

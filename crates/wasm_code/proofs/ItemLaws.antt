@@ -14,13 +14,13 @@ use Rattle.wasm_ops.specs.Limits.{most_targets, most_blocks, most_locals}
 use Rattle.wasm_ops.specs.Refusals.{fault_at}
 use Rattle.wasm_code.specs.declared.items.Item.TheVariants as item
 use Rattle.wasm_code.specs.declared.forms.Form.{Form}
-use Rattle.wasm_code.specs.declared.forms.Form.TheVariants.{Operator, Labels, Opens, Else, End}
+use Rattle.wasm_code.specs.declared.forms.Form.TheVariants.{Operator, Labels, Prefixed, Opens, Else, End}
 use Rattle.wasm_code.specs.declared.forms.Layout.{Layout}
 use Rattle.wasm_code.specs.declared.forms.Layout.TheVariants.{Bare, Index, Load, Store, Reserved, I32Const, I64Const, IndirectCall, Float, Unknown}
-use Rattle.wasm_code.specs.Forms.{form_of, with_index}
+use Rattle.wasm_code.specs.Forms.{form_of, with_index, behind_prefix}
 use Rattle.wasm_code.specs.Reading.{as_part, within, ReadsByte, LacksByte}
 use Rattle.wasm_code.specs.Types.{type_of, block_type_of, no_type, typed, as_from, ReadsAs, RefusesAs, ReadsType, RefusesType, type_from, ReadsBlockType, RefusesBlockType, block_type_from}
-use Rattle.wasm_code.specs.Layouts.{ReadsZero, RefusesZero, ReadsIndex, ReadsAddress, RefusesAddress, ReadsLayout, RefusesLayout, zeroed, zero_from, index_from, address_from, layout_from}
+use Rattle.wasm_code.specs.Layouts.{ReadsZero, RefusesZero, ReadsOnly, RefusesOnly, ReadsIndex, ReadsAddress, RefusesAddress, ReadsLayout, RefusesLayout, ReadsPrefixed, RefusesPrefixed, zeroed, zero_from, only_from, index_from, address_from, layout_from, prefixed_from}
 use Rattle.wasm_code.specs.Items.{Parsed, ReadsLabels, AddsLabels, RefusesLabels, branch_table, ReadsForm, RefusesForm, ReadsItem, RefusesItem, labels_from, table_from, form_from, item_from}
 use Rattle.wasm_code.specs.Locals.{Group, RefusesGroup, ReadsGroups, written_out, AddsGroups, RefusesGroups, ReadsLocals, RefusesLocals, with_group, group_from, groups_from, locals_from}
 use Rattle.wasm_code.proofs.Decisions.{Decides, read_parts, read_same, fault_same, and_then_decides, told_decides, as_part_decides, within_decides, stands_decides, fails_decides, byte_decides, number_decides}
@@ -86,6 +86,14 @@ zero_decides o before =
 u32_decides : (before : Input) → Decides ℕ (number_from Unsigned 32 before) (ReadsNumber Unsigned 32 before) (RefusesNumber Unsigned 32 before)
 u32_decides before = number_decides Unsigned 32 before (omega arith)
 
+only_decides : (o : Op) (before : Input) → Decides Op (only_from o before) (ReadsOnly o before) (RefusesOnly before)
+only_decides o before =
+    and_then_decides (number_from Unsigned 32 before) (λ number after. zeroed o before.at number after)
+    (ReadsNumber Unsigned 32 before) (RefusesNumber Unsigned 32 before)
+    (λ number there operator after. (number ≡ 0) × (operator ≡ o) × (after ≡ there))
+    (λ number there fault. (number ≢ 0) × (fault ≡ fault_at refusal.Reserved before.at))
+    (u32_decides before) (λ number there reads. zeroed_at o before.at number there (cases_eq number 0))
+
 index_decides
     : (with : ℕ → Op) (before : Input) → Decides Op (index_from with before) (ReadsIndex with before) (RefusesNumber Unsigned 32 before)
 index_decides with before =
@@ -114,13 +122,21 @@ layout_decides I64Const at before =
     as_part_decides op.ConstI64 (number_from Signed 64 before) (ReadsNumber Signed 64 before) (RefusesNumber Signed 64 before)
     (number_decides Signed 64 before (omega arith))
 layout_decides IndirectCall at before =
-    and_then_decides (number_from Unsigned 32 before) (λ index there. zero_from (op.CallIndirect index) there)
+    and_then_decides (number_from Unsigned 32 before) (λ index there. only_from (op.CallIndirect index) there)
     (ReadsNumber Unsigned 32 before) (RefusesNumber Unsigned 32 before)
-    (λ index there operator after. ReadsZero (op.CallIndirect index) there operator after)
-    (λ index there fault. RefusesZero there fault)
-    (u32_decides before) (λ index there reads. zero_decides (op.CallIndirect index) there)
+    (λ index there operator after. ReadsOnly (op.CallIndirect index) there operator after)
+    (λ index there fault. RefusesOnly there fault)
+    (u32_decides before) (λ index there reads. only_decides (op.CallIndirect index) there)
 layout_decides Float at before = fails_decides (fault_at refusal.FloatOperator at)
 layout_decides Unknown at before = fails_decides (fault_at refusal.UnknownOperator at)
+
+prefixed_decides : (at : ℕ) (before : Input) → Decides Op (prefixed_from at before) (ReadsPrefixed before) (RefusesPrefixed at before)
+prefixed_decides at before =
+    and_then_decides (number_from Unsigned 32 before) (λ code there. layout_from (behind_prefix code) at there)
+    (ReadsNumber Unsigned 32 before) (RefusesNumber Unsigned 32 before)
+    (λ code there operator after. ReadsLayout (behind_prefix code) there operator after)
+    (λ code there fault. RefusesLayout (behind_prefix code) at there fault)
+    (u32_decides before) (λ code there reads. layout_decides (behind_prefix code) at there)
 
 -- Items.
 
@@ -216,6 +232,9 @@ form_decides
 form_decides (Operator layout) depth targets at before =
     as_part_decides (λ (operator : Op). (item.Operator operator, targets)) (layout_from layout at before) (ReadsLayout layout before) (RefusesLayout layout at before)
     (layout_decides layout at before)
+form_decides Prefixed depth targets at before =
+    as_part_decides (λ (operator : Op). (item.Operator operator, targets)) (prefixed_from at before) (ReadsPrefixed before) (RefusesPrefixed at before)
+    (prefixed_decides at before)
 form_decides Labels depth targets at before = table_decides depth targets at before
 form_decides (Opens opener) depth targets at before =
     within_decides most_blocks (depth + 1) (fault_at refusal.TooDeep at)

@@ -17,13 +17,13 @@ use Rattle.wasm_ops.specs.Refusals.{fault_at}
 use Rattle.wasm_code.specs.declared.items.Item.{Item}
 use Rattle.wasm_code.specs.declared.items.Item.TheVariants as item
 use Rattle.wasm_code.specs.declared.forms.Form.{Form}
-use Rattle.wasm_code.specs.declared.forms.Form.TheVariants.{Operator, Labels, Opens, Else, End}
+use Rattle.wasm_code.specs.declared.forms.Form.TheVariants.{Operator, Labels, Prefixed, Opens, Else, End}
 use Rattle.wasm_code.specs.declared.forms.Layout.{Layout}
 use Rattle.wasm_code.specs.declared.forms.Layout.TheVariants.{Bare, Index, Load, Store, Reserved, I32Const, I64Const, IndirectCall, Float, Unknown}
-use Rattle.wasm_code.specs.Forms.{form_of, with_index}
+use Rattle.wasm_code.specs.Forms.{form_of, with_index, behind_prefix}
 use Rattle.wasm_code.specs.Reading.{Read, and_then, as_part, within}
 use Rattle.wasm_code.specs.Types.{type_of, block_type_of, typed, as_from, type_from, block_type_from}
-use Rattle.wasm_code.specs.Layouts.{zeroed, zero_from, index_from, address_from, layout_from}
+use Rattle.wasm_code.specs.Layouts.{zeroed, zero_from, only_from, index_from, address_from, layout_from, prefixed_from}
 use Rattle.wasm_code.specs.Items.{Parsed, branch_table, ReadsItem, RefusesItem, labels_from, table_from, form_from, item_from}
 use Rattle.wasm_code.specs.Locals.{ReadsLocals, RefusesLocals, with_group, group_from, groups_from, locals_from}
 use Rattle.wasm_code.specs.Bodies.{Place, AreCut, beginning, first_place, RefusesNext, RefusesBody}
@@ -111,6 +111,11 @@ zero_stays o end before e =
     and_then_stays end (byte_from before) (λ byte after. zeroed o before.at byte after) (byte_stays end before e)
     (λ byte there same. zeroed_stays o end before.at byte there (omega arith) same)
 
+only_stays : (o : Op) (end : ℕ) (before : Input) → end_of before ≡ end → Stays end (only_from o before)
+only_stays o end before e =
+    and_then_stays end (number_from Unsigned 32 before) (λ number after. zeroed o before.at number after) (u32_stays end before e)
+    (λ number there same. zeroed_stays o end before.at number there (omega arith) same)
+
 index_stays : (with : ℕ → Op) (end : ℕ) (before : Input) → end_of before ≡ end → Stays end (index_from with before)
 index_stays with end before e = as_part_stays end with (number_from Unsigned 32 before) (u32_stays end before e)
 
@@ -131,10 +136,15 @@ layout_stays I32Const end at before under e =
 layout_stays I64Const end at before under e =
     as_part_stays end op.ConstI64 (number_from Signed 64 before) (number_stays Signed 64 end before (omega arith) e)
 layout_stays IndirectCall end at before under e =
-    and_then_stays end (number_from Unsigned 32 before) (λ index there. zero_from (op.CallIndirect index) there) (u32_stays end before e)
-    (λ index there same. zero_stays (op.CallIndirect index) end there same)
+    and_then_stays end (number_from Unsigned 32 before) (λ index there. only_from (op.CallIndirect index) there) (u32_stays end before e)
+    (λ index there same. only_stays (op.CallIndirect index) end there same)
 layout_stays Float end at before under e = under
 layout_stays Unknown end at before under e = under
+
+prefixed_stays : (end at : ℕ) (before : Input) → at ≤ end → end_of before ≡ end → Stays end (prefixed_from at before)
+prefixed_stays end at before under e =
+    and_then_stays end (number_from Unsigned 32 before) (λ code there. layout_from (behind_prefix code) at there) (u32_stays end before e)
+    (λ code there same. layout_stays (behind_prefix code) end at there under same)
 
 -- Items.
 
@@ -158,6 +168,8 @@ form_stays
     → Stays end (form_from form depth targets at before)
 form_stays (Operator layout) depth targets end at before under e =
     as_part_stays end (λ (operator : Op). (item.Operator operator, targets)) (layout_from layout at before) (layout_stays layout end at before under e)
+form_stays Prefixed depth targets end at before under e =
+    as_part_stays end (λ (operator : Op). (item.Operator operator, targets)) (prefixed_from at before) (prefixed_stays end at before under e)
 form_stays Labels depth targets end at before under e = table_stays targets end before e
 form_stays (Opens opener) depth targets end at before under e =
     let view : Option ValType → Parsed = λ result. (item.Opens opener result, targets) in

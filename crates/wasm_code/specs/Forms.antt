@@ -1,4 +1,4 @@
--- Which operator each byte begins, and what follows it (WebAssembly Core 1.0, section 5.4).
+-- Which operator each byte begins, and what follows it (WebAssembly Core 1.0, section 5.4; Core 2.0, sections 5.4.5 to 5.4.7, for the prefix).
 use Rattle.std.specs.Prelude.{ℕ, Bool, true, false, ◌==◌, ◌||◌, nat_lt, if◌then◌else◌, List, [], ◌∷◌, Option, Some, None}
 use Rattle.wasm_ops.specs.declared.operators.Op.{Op}
 use Rattle.wasm_ops.specs.declared.operators.Op.TheVariants as op
@@ -10,7 +10,8 @@ use Rattle.wasm_ops.specs.IntOps.{is_between}
 use Rattle.wasm_ops.specs.Operations.{operation_of, takes_one}
 use Rattle.wasm_code.specs.declared.items.Opener.TheVariants as opener
 use Rattle.wasm_code.specs.declared.forms.Form.{Form}
-use Rattle.wasm_code.specs.declared.forms.Form.TheVariants.{Operator, Labels, Opens, Else, End}
+use Rattle.wasm_code.specs.declared.forms.Form.TheVariants.{Operator, Labels, Prefixed, Opens, Else, End}
+use Rattle.wasm_code.specs.declared.forms.Layout.{Layout}
 use Rattle.wasm_code.specs.declared.forms.Layout.TheVariants.{Bare, Index, Load, Store, Reserved, I32Const, I64Const, IndirectCall, Float, Unknown}
 use Rattle.wasm_code.specs.declared.forms.Indexed.{Indexed}
 use Rattle.wasm_code.specs.declared.forms.Indexed.TheVariants as indexed
@@ -82,7 +83,7 @@ load_rows =
     ∷ (0x35, load I64 4 false)
     ∷ []
 
--- sections 5.4.4 and 5.4.5
+-- sections 5.4.4 and 5.4.5, and the prefix
 abbrev pub store_rows : Rows
 store_rows =
     (0x36, store I32 4)
@@ -96,6 +97,7 @@ store_rows =
     ∷ (0x40, Operator (Reserved op.MemoryGrow))
     ∷ (0x41, Operator I32Const)
     ∷ (0x42, Operator I64Const)
+    ∷ (0xFC, Prefixed)
     ∷ []
 
 -- what the byte begins by the table, which knows no other bytes
@@ -126,6 +128,10 @@ form_with byte None = if is_float_op byte then Operator Float else row_of byte
 
 abbrev pub form_of : (byte : ℕ) → Form
 form_of byte = form_with byte (operation_of byte)
+
+-- what stands behind the prefix and this number: eight conversions of floats, and no other operator that is known here
+abbrev pub behind_prefix : (code : ℕ) → Layout
+behind_prefix code = if nat_lt code 8 then Float else Unknown
 
 -- the operator with its index or label
 abbrev pub with_index : Indexed → ℕ → Op

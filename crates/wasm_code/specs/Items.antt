@@ -13,11 +13,11 @@ use Rattle.wasm_ops.specs.Refusals.{fault_at}
 use Rattle.wasm_code.specs.declared.items.Item.{Item}
 use Rattle.wasm_code.specs.declared.items.Item.TheVariants as item
 use Rattle.wasm_code.specs.declared.forms.Form.{Form}
-use Rattle.wasm_code.specs.declared.forms.Form.TheVariants.{Operator, Labels, Opens, Else, End}
+use Rattle.wasm_code.specs.declared.forms.Form.TheVariants.{Operator, Labels, Prefixed, Opens, Else, End}
 use Rattle.wasm_code.specs.Forms.{form_of}
 use Rattle.wasm_code.specs.Reading.{Read, and_then, as_part, within, ReadsByte, LacksByte}
 use Rattle.wasm_code.specs.Types.{ReadsBlockType, RefusesBlockType, block_type_from}
-use Rattle.wasm_code.specs.Layouts.{ReadsLayout, RefusesLayout, layout_from}
+use Rattle.wasm_code.specs.Layouts.{ReadsLayout, RefusesLayout, ReadsPrefixed, RefusesPrefixed, layout_from, prefixed_from}
 
 -- An item, with the labels of all `br_table`s up to it and with its own.
 abbrev pub Parsed : Type 0
@@ -47,6 +47,8 @@ branch_table targets count all = (item.Operator (op.BrTable (length targets) cou
 abbrev pub ReadsForm : Form → (depth : ℕ) (targets : List ℕ) (before : Input) (parsed : Parsed) (after : Input) → Type 0
 ReadsForm (Operator layout) depth targets before parsed after =
     (operator : Op) × ReadsLayout layout before operator after × (parsed ≡ (item.Operator operator, targets))
+ReadsForm Prefixed depth targets before parsed after =
+    (operator : Op) × ReadsPrefixed before operator after × (parsed ≡ (item.Operator operator, targets))
 ReadsForm Labels depth targets before parsed after =
     (count : ℕ) × (there : Input) × ReadsNumber Unsigned 32 before count there × ((count ≤ most_targets)
     × ((all : List ℕ) × AddsLabels (suc count) targets there all after × (parsed ≡ branch_table targets count all)))
@@ -58,6 +60,7 @@ ReadsForm End depth targets before parsed after = (parsed ≡ (item.End, targets
 -- no such item is spelt; its byte stands at `at`
 abbrev pub RefusesForm : Form → (depth : ℕ) (targets : List ℕ) (at : ℕ) (before : Input) (fault : Fault) → Type 0
 RefusesForm (Operator layout) depth targets at before fault = RefusesLayout layout at before fault
+RefusesForm Prefixed depth targets at before fault = RefusesPrefixed at before fault
 RefusesForm Labels depth targets at before fault =
     RefusesNumber Unsigned 32 before fault
     ⊎ ((count : ℕ) × (there : Input) × ReadsNumber Unsigned 32 before count there
@@ -94,6 +97,7 @@ table_from targets before =
 
 abbrev pub form_from : Form → (depth : ℕ) (targets : List ℕ) (at : ℕ) → Input → Read Parsed
 form_from (Operator layout) depth targets at before = as_part (λ operator. (item.Operator operator, targets)) (layout_from layout at before)
+form_from Prefixed depth targets at before = as_part (λ operator. (item.Operator operator, targets)) (prefixed_from at before)
 form_from Labels depth targets at before = table_from targets before
 form_from (Opens opener) depth targets at before =
     within most_blocks (depth + 1) (fault_at refusal.TooDeep at) (as_part (λ result. (item.Opens opener result, targets)) (block_type_from before))

@@ -1,4 +1,5 @@
--- What stands behind the byte of an operator that opens no block, and what refuses it (WebAssembly Core 1.0, section 5.4).
+-- What stands behind the byte of an operator that opens no block, and what refuses it (WebAssembly Core 1.0, section 5.4;
+-- Core 2.0, sections 5.4.1 and 5.4.5 to 5.4.7, for `call_indirect` and the prefix).
 use Rattle.std.specs.Prelude.{◌≡◌, ◌≢◌, ◌⊎◌, ℕ, ◌==◌, if◌then◌else◌, Ok, Err}
 use Rattle.wasm_ops.specs.declared.faults.Fault.{Fault}
 use Rattle.wasm_ops.specs.declared.operators.Op.{Op}
@@ -10,7 +11,7 @@ use Rattle.wasm_ops.specs.declared.faults.Refusal.TheVariants as refusal
 use Rattle.wasm_ops.specs.Refusals.{fault_at}
 use Rattle.wasm_code.specs.declared.forms.Layout.{Layout}
 use Rattle.wasm_code.specs.declared.forms.Layout.TheVariants.{Bare, Index, Load, Store, Reserved, I32Const, I64Const, IndirectCall, Float, Unknown}
-use Rattle.wasm_code.specs.Forms.{with_index}
+use Rattle.wasm_code.specs.Forms.{with_index, behind_prefix}
 use Rattle.wasm_code.specs.Reading.{Read, and_then, as_part, ReadsByte, LacksByte}
 
 -- a byte 00, of an operator
@@ -23,6 +24,18 @@ abbrev pub RefusesZero : (before : Input) (fault : Fault) → Type 0
 RefusesZero before fault =
     LacksByte before fault
     ⊎ ((byte : ℕ) × (there : Input) × ReadsByte before byte there × ((byte ≢ 0) × (fault ≡ fault_at refusal.Reserved before.at)))
+
+-- the number 0 in any spelling, of an operator: the index of the only table
+abbrev pub ReadsOnly : Op → (before : Input) (operator : Op) (after : Input) → Type 0
+ReadsOnly o before operator after =
+    (number : ℕ) × (there : Input) × ReadsNumber Unsigned 32 before number there × ((number ≡ 0) × (operator ≡ o) × (after ≡ there))
+
+-- no number is spelt, or another one
+abbrev pub RefusesOnly : (before : Input) (fault : Fault) → Type 0
+RefusesOnly before fault =
+    RefusesNumber Unsigned 32 before fault
+    ⊎ ((number : ℕ) × (there : Input) × ReadsNumber Unsigned 32 before number there
+    × ((number ≢ 0) × (fault ≡ fault_at refusal.Reserved before.at)))
 
 -- a number, as a part of an operator
 abbrev pub ReadsIndex : (ℕ → Op) → (before : Input) (operator : Op) (after : Input) → Type 0
@@ -51,7 +64,7 @@ ReadsLayout I32Const before operator after =
 ReadsLayout I64Const before operator after =
     (number : ℕ) × ReadsNumber Signed 64 before number after × (operator ≡ op.ConstI64 number)
 ReadsLayout IndirectCall before operator after =
-    (index : ℕ) × (there : Input) × ReadsNumber Unsigned 32 before index there × ReadsZero (op.CallIndirect index) there operator after
+    (index : ℕ) × (there : Input) × ReadsNumber Unsigned 32 before index there × ReadsOnly (op.CallIndirect index) there operator after
 ReadsLayout Float before operator after = ⊥
 ReadsLayout Unknown before operator after = ⊥
 
@@ -66,17 +79,30 @@ RefusesLayout I32Const at before fault = RefusesNumber Signed 32 before fault
 RefusesLayout I64Const at before fault = RefusesNumber Signed 64 before fault
 RefusesLayout IndirectCall at before fault =
     RefusesNumber Unsigned 32 before fault
-    ⊎ ((index : ℕ) × (there : Input) × ReadsNumber Unsigned 32 before index there × RefusesZero there fault)
+    ⊎ ((index : ℕ) × (there : Input) × ReadsNumber Unsigned 32 before index there × RefusesOnly there fault)
 RefusesLayout Float at before fault = fault ≡ fault_at refusal.FloatOperator at
 RefusesLayout Unknown at before fault = fault ≡ fault_at refusal.UnknownOperator at
 
+-- a number, and behind it what the prefix with this number asks for; where there is no such operator, the prefix is refused, which stands at `at`
+abbrev pub ReadsPrefixed : (before : Input) (operator : Op) (after : Input) → Type 0
+ReadsPrefixed before operator after =
+    (code : ℕ) × (there : Input) × ReadsNumber Unsigned 32 before code there × ReadsLayout (behind_prefix code) there operator after
+
+abbrev pub RefusesPrefixed : (at : ℕ) (before : Input) (fault : Fault) → Type 0
+RefusesPrefixed at before fault =
+    RefusesNumber Unsigned 32 before fault
+    ⊎ ((code : ℕ) × (there : Input) × ReadsNumber Unsigned 32 before code there × RefusesLayout (behind_prefix code) at there fault)
+
 -- The same as functions.
 
-abbrev pub zeroed : Op → (at byte : ℕ) → Input → Read Op
-zeroed o at byte after = if byte == 0 then Ok (o, after) else Err (fault_at refusal.Reserved at)
+abbrev pub zeroed : Op → (at found : ℕ) → Input → Read Op
+zeroed o at found after = if found == 0 then Ok (o, after) else Err (fault_at refusal.Reserved at)
 
 abbrev pub zero_from : Op → Input → Read Op
 zero_from o before = and_then (byte_from before) (λ byte after. zeroed o before.at byte after)
+
+abbrev pub only_from : Op → Input → Read Op
+only_from o before = and_then (number_from Unsigned 32 before) (λ number after. zeroed o before.at number after)
 
 abbrev pub index_from : (ℕ → Op) → Input → Read Op
 index_from with before = as_part with (number_from Unsigned 32 before)
@@ -93,6 +119,9 @@ layout_from (Reserved o) at before = zero_from o before
 layout_from I32Const at before = as_part op.ConstI32 (number_from Signed 32 before)
 layout_from I64Const at before = as_part op.ConstI64 (number_from Signed 64 before)
 layout_from IndirectCall at before =
-    and_then (number_from Unsigned 32 before) (λ index there. zero_from (op.CallIndirect index) there)
+    and_then (number_from Unsigned 32 before) (λ index there. only_from (op.CallIndirect index) there)
 layout_from Float at before = Err (fault_at refusal.FloatOperator at)
 layout_from Unknown at before = Err (fault_at refusal.UnknownOperator at)
+
+abbrev pub prefixed_from : (at : ℕ) → Input → Read Op
+prefixed_from at before = and_then (number_from Unsigned 32 before) (λ code there. layout_from (behind_prefix code) at there)

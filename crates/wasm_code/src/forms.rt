@@ -1,6 +1,6 @@
-//! What each byte begins in a body, and what follows it (WebAssembly Core 1.0, section 5.4).
+//! What each byte begins in a body, and what follows it (WebAssembly Core 1.0, section 5.4; Core 2.0, sections 5.4.5 to 5.4.7, for the prefix).
 ghost use Rattle.std.specs.Prelude.{◌≡◌, false, None};
-ghost use Rattle.wasm_code.specs.Forms.{is_float_op, form_of, form_with, int_op, row_of, look_up, with_index, control_rows, variable_rows, load_rows, store_rows};
+ghost use Rattle.wasm_code.specs.Forms.{is_float_op, behind_prefix, form_of, form_with, int_op, row_of, look_up, with_index, control_rows, variable_rows, load_rows, store_rows};
 
 use crate::items::Opener;
 use wasm_ops::{Access, IntOp, Op, Operation, ValType};
@@ -13,6 +13,9 @@ pub(crate) enum Form {
 
     /// `br_table`, with its labels.
     Labels,
+
+    /// The prefix `FC`: a number says which operator it is.
+    Prefixed,
 
     /// The beginning of a block, with a block type.
     Opens(Opener),
@@ -48,13 +51,13 @@ pub(crate) enum Layout {
     /// A signed number of 64 bits, of `i64.const`.
     I64Const,
 
-    /// The index of a type and a byte that must be 00, of `call_indirect`.
+    /// The index of a type and that of a table, which must be 0, of `call_indirect`.
     IndirectCall,
 
     /// Whatever follows a float operator, which no body has here.
     Float,
 
-    /// The byte is none of WebAssembly's.
+    /// There is no such operator.
     Unknown,
 }
 
@@ -256,6 +259,7 @@ fn store(byte: u8) -> Form
         0x40 => Form::Operator(Layout::Reserved(Op::MemoryGrow)),
         0x41 => Form::Operator(Layout::I32Const),
         0x42 => Form::Operator(Layout::I64Const),
+        0xFC => Form::Prefixed,
         _ => Form::Operator(Layout::Unknown),
     }
 }
@@ -264,4 +268,14 @@ fn stored(value: ValType, width: u8) -> Form
     ensures { result ≡ Form.Operator (Layout.Store (record { value = value; width = width; signed = false })) }
 {
     Form::Operator(Layout::Store(access_of(value, width, false)))
+}
+
+/// What stands behind the prefix and this number.
+pub(crate) fn behind_prefix(code: u32) -> Layout
+    ensures { result ≡ behind_prefix code }
+{
+    match code {
+        0..=7 => Layout::Float,
+        _ => Layout::Unknown,
+    }
 }

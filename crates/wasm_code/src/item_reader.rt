@@ -7,7 +7,7 @@ use crate::faults::CodeFault;
 use crate::forms::Form;
 use crate::items::Item;
 use crate::labels::branch_table;
-use crate::layouts::operator;
+use crate::layouts::{operator, prefixed};
 use crate::value_types::block_type;
 use wasm_ops::{Cursor, Refusal};
 
@@ -27,6 +27,7 @@ pub(crate) fn read_item(
     let byte = cursor.byte()?;
     match Form::of(byte) {
         Form::Operator(layout) => Ok(Item::Operator(operator(&layout, at, cursor)?)),
+        Form::Prefixed => Ok(Item::Operator(prefixed(at, cursor)?)),
         Form::Labels => Ok(Item::Operator(branch_table(targets, cursor)?)),
         Form::Opens(opener) => {
             if MOST_BLOCKS <= depth {

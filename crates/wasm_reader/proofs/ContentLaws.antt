@@ -1,13 +1,13 @@
 -- What the sections of a module hold is read as the syntaxes have it.
-use Rattle.std.proofs.Common.{ℕ, List}
-use Rattle.wasm_ops.specs.declared.faults.Refusal.TheVariants.{TooLarge, BadKind}
+use Rattle.std.proofs.Common.{ℕ, List, Option}
+use Rattle.wasm_ops.specs.declared.faults.Refusal.TheVariants.{TooLarge, BadKind, CountsDiffer}
 use Rattle.wasm_ops.specs.declared.modules.Import.{Import}
 use Rattle.wasm_ops.specs.declared.modules.ImportItem.TheVariants as item
 use Rattle.wasm_ops.specs.Limits.{most_functions, most_globals, most_types, imported_functions, imported_globals}
 use Rattle.wasm_reader.specs.declared.imports.ImportKind.{ImportKind}
 use Rattle.wasm_reader.specs.declared.imports.ImportKind.TheVariants as kind
 use Rattle.wasm_reader.specs.Syntax.{or_fault}
-use Rattle.wasm_reader.specs.Contents.{types, kind_of, with_room, import_kind, import_item, as_import, import_behind, imports, functions, tables, memories, as_global, global, globals, as_kind, as_export, export, exports, as_element, element, elements, as_segment, segment, segments}
+use Rattle.wasm_reader.specs.Contents.{types, kind_of, with_room, import_kind, import_item, as_import, import_behind, imports, functions, tables, memories, as_global, global, globals, as_kind, as_export, export, exports, as_element, element, elements, as_segment, segment, as_counted, segments}
 use Rattle.wasm_reader.proofs.SyntaxLaws.{IsDecidedBy, byte_decided, number_decided, bytes_decided, map_decided, checked_decided, ◌⨾⨾◌}
 use Rattle.wasm_reader.proofs.ItemLaws.{items_decided, vector_decided, vector_within_decided}
 use Rattle.wasm_reader.proofs.PartLaws.{name_decided, value_type_decided, mutability_decided, table_decided, memory_decided, constant_decided, function_type_decided}
@@ -70,5 +70,6 @@ segment_decided : IsDecidedBy segment
 segment_decided =
     number_decided ⨾⨾ λ memory. constant_decided ⨾⨾ λ offset. number_decided ⨾⨾ λ count. map_decided (as_segment memory offset) (bytes_decided count)
 
-pub segments_decided : IsDecidedBy segments
-segments_decided = vector_decided segment_decided
+pub segments_decided : (due : Option ℕ) → IsDecidedBy (segments due)
+segments_decided due =
+    checked_decided (as_counted due) (or_fault CountsDiffer) number_decided ⨾⨾ λ count. items_decided count (λ so_far. segment_decided)

@@ -26,7 +26,7 @@ use Rattle.wasm_reader.specs.declared.sections.Part.{Part}
 use Rattle.wasm_reader.specs.declared.sections.Part.TheVariants as part
 use Rattle.wasm_reader.specs.Syntax.{Syntax, bytes, checked, or_fault, ReadsItems}
 use Rattle.wasm_reader.specs.Parts.{this, tag, name, value_type, flag_of, mutability, greatest, bounds, table, memory, constant_of, no_constant, constant_bits, as_constant, constant, result_type, as_function_type, function_type}
-use Rattle.wasm_reader.specs.Contents.{kind_of, with_room, import_item, as_import, import_behind, next_import, has_room, imports, functions, as_global, global, globals, as_kind, as_export, export, as_element, element, as_segment, segment}
+use Rattle.wasm_reader.specs.Contents.{kind_of, with_room, import_item, as_import, import_behind, next_import, has_room, imports, functions, as_global, global, globals, as_kind, as_export, export, as_element, element, as_segment, segment, is_counted, as_counted, segments}
 use Rattle.wasm_reader.specs.Bodies.{body, sized_body, same_count, bodies}
 use Rattle.wasm_reader.specs.Modules.{opens_with, always, magic, version, header, SpellsModule}
 use Rattle.wasm_reader.specs.Structure.{Held, ReadsSection, AreSections, is_part, window_of, IsPart}
@@ -215,6 +215,16 @@ segment_yields =
     then_yields number_yields (λ count any.
     map_yields (as_segment memory offset) IsByteSegment (bytes_yields count) (λ xs few. record { offset = is; few = few }))))
 
+counted_chosen : (count found : ℕ) (is : Bool) → IsCounted count → (if is then Some count else None) ≡ Some found → IsCounted found
+counted_chosen count found true few e = let same : count ≡ found = cc in subst IsCounted same few
+counted_chosen count found false few e = let bad : ⊥ = cc in absurd bad
+
+segments_yields : (due : Option ℕ) → Yields (segments due) (λ xs. AllByRecursion IsByteSegment xs × IsCounted (length xs))
+segments_yields due =
+    vector_of_yields IsCounted IsByteSegment
+    (checked_yields (as_counted due) (or_fault CountsDiffer) IsCounted number_yields (λ count found few is. counted_chosen count found (is_counted due count) few is))
+    (λ so_far. segment_yields)
+
 -- Bodies.
 
 body_yields : Yields body IsWellFormedBody
@@ -300,7 +310,7 @@ module_formed bytes m are spells =
     let in_exports = part_is (window_of part.Exports is.sections) [] m.exports (window part.Exports) p.exports (vector_yields IsExport export_yields) (tt, omega arith) in
     let in_elements = part_is (window_of part.Elements is.sections) [] m.elements (window part.Elements) p.elements (vector_yields IsElementSegment element_yields) (tt, omega arith) in
     let in_bodies = part_is (window_of part.Bodies is.sections) [] m.bodies (window part.Bodies) p.bodies (bodies_yields (length m.functions)) (tt, tt) in
-    let in_segments = part_is (window_of part.Segments is.sections) [] m.segments (window part.Segments) p.segments (vector_yields IsByteSegment segment_yields) (tt, omega arith) in
+    let in_segments = part_is (window_of part.Segments is.sections) [] m.segments (window part.Segments) p.segments (segments_yields is.data_count) (tt, omega arith) in
     let few = imports_few (window_of part.Imports is.sections) m.imports p.imports in
     let few_functions = few.0 in
     let few_globals = few.1 in

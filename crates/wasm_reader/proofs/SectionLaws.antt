@@ -13,32 +13,33 @@ use Rattle.wasm_reader.specs.declared.sections.Section.{Section}
 use Rattle.wasm_reader.specs.declared.sections.Section.TheVariants as section
 use Rattle.wasm_reader.specs.declared.sections.Progress.{Progress}
 use Rattle.wasm_reader.specs.Syntax.{ReadsBytes, or_fault}
-use Rattle.wasm_reader.specs.Sections.{section_of, rising, section_id, part_of, after_part, section_content, one_section}
+use Rattle.wasm_reader.specs.Sections.{section_of, rising, section_id, part_of, after_part, after_count, section_content, one_section}
 use Rattle.wasm_reader.proofs.SyntaxLaws.{IsDecidedBy, byte_decided, number_decided, pure_decided, map_decided, checked_decided, inside_decided, exactly_decided, ◌⨾⨾◌}
 use Rattle.wasm_reader.proofs.StepLaws.{TakesBytes}
 use Rattle.wasm_reader.proofs.PartLaws.{name_decided}
 use Rattle.wasm_reader.proofs.ContentLaws.{types_decided, imports_decided, functions_decided, tables_decided, memories_decided, globals_decided, exports_decided, elements_decided, segments_decided}
 use Rattle.wasm_reader.proofs.BodyLaws.{bodies_decided}
 
-pub section_id_decided : (last : Option Part) → IsDecidedBy (section_id last)
+pub section_id_decided : (last : ℕ) → IsDecidedBy (section_id last)
 section_id_decided last = checked_decided (rising last) (or_fault SectionOrder) (checked_decided section_of (or_fault UnknownSection) byte_decided)
 
-part_decided : (p : Part) (m : Module) → IsDecidedBy (part_of p m)
-part_decided part.Types m = map_decided (λ xs. record m { types = xs }) types_decided
-part_decided part.Imports m = map_decided (λ xs. record m { imports = xs }) imports_decided
-part_decided part.Functions m = map_decided (λ xs. record m { functions = xs }) (functions_decided m.imports)
-part_decided part.Tables m = map_decided (λ xs. record m { tables = xs }) tables_decided
-part_decided part.Memories m = map_decided (λ xs. record m { memories = xs }) memories_decided
-part_decided part.Globals m = map_decided (λ xs. record m { globals = xs }) (globals_decided m.imports)
-part_decided part.Exports m = map_decided (λ xs. record m { exports = xs }) exports_decided
-part_decided part.Start m = map_decided (λ index. record m { start = Some index }) number_decided
-part_decided part.Elements m = map_decided (λ xs. record m { elements = xs }) elements_decided
-part_decided part.Bodies m = map_decided (λ xs. record m { bodies = xs }) (bodies_decided (length m.functions))
-part_decided part.Segments m = map_decided (λ xs. record m { segments = xs }) segments_decided
+part_decided : (p : Part) (due : Option ℕ) (m : Module) → IsDecidedBy (part_of p due m)
+part_decided part.Types due m = map_decided (λ xs. record m { types = xs }) types_decided
+part_decided part.Imports due m = map_decided (λ xs. record m { imports = xs }) imports_decided
+part_decided part.Functions due m = map_decided (λ xs. record m { functions = xs }) (functions_decided m.imports)
+part_decided part.Tables due m = map_decided (λ xs. record m { tables = xs }) tables_decided
+part_decided part.Memories due m = map_decided (λ xs. record m { memories = xs }) memories_decided
+part_decided part.Globals due m = map_decided (λ xs. record m { globals = xs }) (globals_decided m.imports)
+part_decided part.Exports due m = map_decided (λ xs. record m { exports = xs }) exports_decided
+part_decided part.Start due m = map_decided (λ index. record m { start = Some index }) number_decided
+part_decided part.Elements due m = map_decided (λ xs. record m { elements = xs }) elements_decided
+part_decided part.Bodies due m = map_decided (λ xs. record m { bodies = xs }) (bodies_decided (length m.functions))
+part_decided part.Segments due m = map_decided (λ xs. record m { segments = xs }) (segments_decided due)
 
 section_content_decided : (s : Section) (so_far : Progress) → IsDecidedBy (section_content s so_far)
 section_content_decided section.Custom so_far = name_decided ⨾⨾ λ own. pure_decided so_far
-section_content_decided (section.Part p) so_far = map_decided (after_part p) (exactly_decided SectionSize (part_decided p so_far.parts))
+section_content_decided section.DataCount so_far = map_decided (after_count so_far) (exactly_decided SectionSize number_decided)
+section_content_decided (section.Part p) so_far = map_decided (after_part p so_far) (exactly_decided SectionSize (part_decided p so_far.data_count so_far.parts))
 
 pub one_section_decided : (so_far : Progress) → IsDecidedBy (one_section so_far)
 one_section_decided so_far =

@@ -1,6 +1,6 @@
--- What the sections of a module hold, item by item (WebAssembly Core 1.0, sections 5.5.4 to 5.5.14).
+-- What the sections of a module hold, item by item (WebAssembly Core 1.0, sections 5.5.4 to 5.5.14; Core 2.0, section 5.5.16, for the count of data segments).
 use Rattle.std.specs.Prelude.{ℕ, ◌==◌, nat_lt, Bool, true, if◌then◌else◌, List, Option, Some, None}
-use Rattle.wasm_ops.specs.declared.faults.Refusal.TheVariants.{TooLarge, BadKind}
+use Rattle.wasm_ops.specs.declared.faults.Refusal.TheVariants.{TooLarge, BadKind, CountsDiffer}
 use Rattle.wasm_ops.specs.declared.modules.Import.{Import}
 use Rattle.wasm_ops.specs.declared.modules.ImportItem.{ImportItem}
 use Rattle.wasm_ops.specs.declared.modules.ImportItem.TheVariants as item
@@ -15,7 +15,7 @@ use Rattle.wasm_ops.specs.declared.types.ValType.{ValType}
 use Rattle.wasm_ops.specs.Limits.{most_types, most_functions, most_globals, most_kind, imported_functions, imported_globals}
 use Rattle.wasm_reader.specs.declared.imports.ImportKind.{ImportKind}
 use Rattle.wasm_reader.specs.declared.imports.ImportKind.TheVariants as kind
-use Rattle.wasm_reader.specs.Syntax.{Syntax, byte, bytes, number, map, checked, or_fault, items, vector, vector_within, ◌⨾◌}
+use Rattle.wasm_reader.specs.Syntax.{Syntax, byte, bytes, number, map, checked, or_fault, items, vector, vector_of, vector_within, ◌⨾◌}
 use Rattle.wasm_reader.specs.Parts.{name, value_type, mutability, table, memory, constant, function_type}
 
 abbrev pub types : Syntax (List FuncType)
@@ -106,5 +106,13 @@ as_segment memory offset bytes = record { memory = memory; offset = offset; byte
 abbrev pub segment : Syntax ByteSegment
 segment = number ⨾ λ memory. constant ⨾ λ offset. number ⨾ λ count. map (as_segment memory offset) (bytes count)
 
-abbrev pub segments : Syntax (List ByteSegment)
-segments = vector segment
+-- as many as was said, if it was
+abbrev pub is_counted : (due : Option ℕ) → (count : ℕ) → Bool
+is_counted None count = true
+is_counted (Some due) count = count == due
+
+abbrev pub as_counted : (due : Option ℕ) → (count : ℕ) → Option ℕ
+as_counted due count = if is_counted due count then Some count else None
+
+abbrev pub segments : (due : Option ℕ) → Syntax (List ByteSegment)
+segments due = vector_of (checked (as_counted due) (or_fault CountsDiffer) number) (λ so_far. segment)

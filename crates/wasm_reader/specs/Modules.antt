@@ -1,5 +1,5 @@
 -- What bytes spell a module, and with which number and at which place bytes are refused as one (WebAssembly Core 1.0, section 5.5.15).
-use Rattle.std.specs.Prelude.{◌≡◌, ◌⊎◌, ℕ, ◌<◌, ◌≤◌, ◌==◌, if◌then◌else◌, List, [], ◌∷◌, length, Option, Some, None}
+use Rattle.std.specs.Prelude.{◌≡◌, ◌⊎◌, ℕ, ◌<◌, ◌≤◌, ◌==◌, ◌&&◌, if◌then◌else◌, List, [], ◌∷◌, length, Option, Some, None}
 use Rattle.wasm_ops.specs.declared.faults.Fault.{Fault}
 use Rattle.wasm_ops.specs.declared.faults.Refusal.TheVariants.{BadMagic, BadVersion, CountsDiffer, TooLarge}
 use Rattle.wasm_ops.specs.declared.modules.Module.{Module}
@@ -9,6 +9,7 @@ use Rattle.wasm_code.specs.Bodies.{beginning}
 use Rattle.wasm_reader.specs.declared.sections.Progress.{Progress}
 use Rattle.wasm_reader.specs.Syntax.{Syntax, byte, pure, checked, or_fault, to_end, ◌⨾◌}
 use Rattle.wasm_reader.specs.Parts.{this}
+use Rattle.wasm_reader.specs.Contents.{is_counted}
 use Rattle.wasm_reader.specs.Sections.{one_section}
 
 -- just these bytes, one behind another; a byte that differs has this fault, wherever it stands
@@ -46,13 +47,15 @@ no_parts = record {
 }
 
 abbrev pub at_start : Progress
-at_start = record { last = None; parts = no_parts }
+at_start = record { last = 0; data_count = None; parts = no_parts }
 
--- each function has its body: where there is no section of bodies, there is no function
+-- each function has its body, and there are as many data segments as was said: where there is no section of bodies, there is no function, and where there is none of data, the count is 0 or was not said
 abbrev pub complete : Progress → Option Module
-complete done = if length done.parts.bodies == length done.parts.functions then Some done.parts else None
+complete done =
+    if is_counted done.data_count (length done.parts.segments) && (length done.parts.bodies == length done.parts.functions)
+    then Some done.parts else None
 
--- the header, the sections up to the end, and at the end as many bodies as functions
+-- the header, the sections up to the end, and at the end as many bodies as functions, and as many data segments as was said
 abbrev pub whole_module : Syntax Module
 whole_module =
     header ⨾ λ begun. to_end one_section at_start ⨾ λ done. checked complete (or_fault CountsDiffer) (pure done)

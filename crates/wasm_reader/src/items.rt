@@ -1,7 +1,8 @@
 //! What the vectors of a module are made of, but for imports and bodies (WebAssembly Core 1.0, sections 5.3, 5.5.4, 5.5.6 to 5.5.10, 5.5.12 and 5.5.14).
-ghost use Rattle.wasm_ops.specs.declared.faults.Refusal.TheVariants.{BadKind};
+ghost use Rattle.std.specs.Prelude.{◌≡◌};
+ghost use Rattle.wasm_ops.specs.declared.faults.Refusal.TheVariants.{BadKind, CountsDiffer};
 ghost use Rattle.wasm_code.specs.Faults.{Gives, Tells};
-ghost use Rattle.wasm_reader.specs.Contents.{as_kind, element as element_syntax, export as export_syntax, global as global_syntax, segment as segment_syntax};
+ghost use Rattle.wasm_reader.specs.Contents.{as_counted, as_kind, is_counted, element as element_syntax, export as export_syntax, global as global_syntax, segment as segment_syntax};
 ghost use Rattle.wasm_reader.specs.Parts.{function_type as function_type_syntax, memory as memory_syntax, name as name_syntax, result_type as result_type_syntax, table as table_syntax, value_type as value_type_syntax};
 ghost use Rattle.wasm_reader.specs.Syntax.{byte, checked, number, or_fault};
 
@@ -231,5 +232,28 @@ impl ItemKind for DataSegments {
             offset,
             bytes: Items::new(Vec::from_slice(alloc, bytes)?),
         })
+    }
+}
+
+/// How many data segments there are. Refused: `CountsDiffer` where there are more or fewer of them than was said.
+pub(crate) fn segment_count(due: Option<u32>, cursor: &mut Cursor<'_>) -> Result<u32, Fault>
+    ensures { Tells (λ count. (count, cursor.new)) result ((checked (as_counted due) (or_fault CountsDiffer) number).read cursor.old) }
+{
+    let at = cursor.at();
+    let count = cursor.u32_leb()?;
+    if is_counted(due, u64::from(count)) {
+        Ok(count)
+    } else {
+        Err(Refusal::CountsDiffer.at(at))
+    }
+}
+
+/// Whether there are as many data segments as was said, if it was.
+pub(crate) fn is_counted(due: Option<u32>, count: u64) -> bool
+    ensures { result ≡ is_counted due count }
+{
+    match due {
+        None => true,
+        Some(due) => count == u64::from(due),
     }
 }

@@ -12,6 +12,7 @@ ghost use Rattle.wasm_reader.specs.Sections.{one_section};
 ghost use Rattle.wasm_reader.specs.Syntax.{checked, pure, or_fault, to_end};
 
 use crate::ReadFault;
+use crate::items::is_counted;
 use crate::sections::{Progress, read_section};
 use std::alloc::Global;
 use wasm_ops::{Cursor, Fault, Module, Refusal};
@@ -99,11 +100,16 @@ fn read_sections(
     Ok(())
 }
 
-// The module, which has a body for each function. Refused: `CountsDiffer` where the section of bodies is missing, at the end of the file.
+// The module, which has a body for each function and as many data segments as was said. Refused: `CountsDiffer` where the section of bodies or that of data is missing, at the end of the file.
 fn complete(progress: Progress, cursor: &Cursor<'_>) -> Result<Module, Fault>
     ensures { Tells (λ parts. (parts, cursor.now)) result ((checked complete (or_fault CountsDiffer) (pure progress)).read cursor.now) }
 {
+    let due = progress.data_count;
     let module = progress.parts;
+    let segments = module.segments.as_slice().len() as u64;
+    if !is_counted(due, segments) {
+        return Err(Refusal::CountsDiffer.at(cursor.at()));
+    }
     if module.bodies.as_slice().len() != module.functions.as_slice().len() {
         return Err(Refusal::CountsDiffer.at(cursor.at()));
     }

@@ -1,14 +1,15 @@
-//! The sections of a module, in their order (WebAssembly Core 1.0, sections 5.5.2 and 5.5.3).
+//! The sections of a module, in their order (WebAssembly Core 1.0, sections 5.5.2 and 5.5.3; Core 2.0, sections 5.5.2 and 5.5.15, for the count of data segments).
 ghost use Rattle.std.specs.Prelude.{◌≡◌};
 ghost use Rattle.wasm_code.specs.Faults.{Gives, Tells};
 ghost use Rattle.wasm_reader.specs.Modules.{at_start};
-ghost use Rattle.wasm_reader.specs.Sections.{id_of, is_behind, one_section, part_of, rising, section_content as section_content_syntax, section_id as section_id_syntax, section_of};
+ghost use Rattle.wasm_reader.specs.Sections.{in_order, one_section, part_of, rank_of, rank_of_part, rising, section_content as section_content_syntax, section_id as section_id_syntax, section_of};
 
 use crate::ReadFault;
 use crate::bodies::{Bodies, body_count};
 use crate::imports::{Imported, MOST_FUNCTIONS, MOST_GLOBALS, imports};
 use crate::items::{
     DataSegments, ElementSegments, Exports, FunctionTypes, Globals, Indices, Memories, Tables,
+    segment_count,
 };
 use crate::vectors::{items, vector, vector_within};
 use std::alloc::Global;
@@ -17,7 +18,7 @@ use wasm_ops::{Cursor, Fault, Items, Module, Refusal};
 // The most function types of a module.
 const MOST_TYPES: u32 = 1_000;
 
-/// A part of a module that stands in a section of its own, in the order of the sections' ids (section 5.5.2).
+/// A part of a module that stands in a section of its own, in the order of the sections (section 5.5.2).
 #[derive(Clone, Copy)]
 pub(crate) enum Part {
     /// Function types (id 1).
@@ -55,8 +56,9 @@ pub(crate) enum Part {
 }
 
 impl Part {
-    fn id(self) -> u8
-        ensures { result ≡ id_of self }
+    // Where its section stands in the order of sections.
+    fn rank(self) -> u8
+        ensures { result ≡ rank_of_part self }
     {
         match self {
             Part::Types => 1,
@@ -68,8 +70,8 @@ impl Part {
             Part::Exports => 7,
             Part::Start => 8,
             Part::Elements => 9,
-            Part::Bodies => 10,
-            Part::Segments => 11,
+            Part::Bodies => 11,
+            Part::Segments => 12,
         }
     }
 }
@@ -79,6 +81,9 @@ impl Part {
 pub(crate) enum Section {
     /// A name, and bytes that mean nothing to the module (id 0).
     Custom,
+
+    /// How many data segments there are (id 12), which stands before the bodies.
+    DataCount,
 
     /// A part of the module.
     Part(Part),
@@ -101,7 +106,19 @@ impl Section {
             9 => Some(Section::Part(Part::Elements)),
             10 => Some(Section::Part(Part::Bodies)),
             11 => Some(Section::Part(Part::Segments)),
+            12 => Some(Section::DataCount),
             _ => None,
+        }
+    }
+
+    // Where it stands in the order of sections; 0 for a custom one, which stands anywhere.
+    fn rank(self) -> u8
+        ensures { result ≡ rank_of self }
+    {
+        match self {
+            Section::Custom => 0,
+            Section::DataCount => 10,
+            Section::Part(part) => part.rank(),
         }
     }
 }
@@ -109,8 +126,11 @@ impl Section {
 /// What has been read of a module.
 #[derive(Drop)]
 pub(crate) struct Progress {
-    /// What the last section held that is not custom, if there is one yet.
-    pub(crate) last: Option<Part>,
+    /// The rank of the last section that is not custom, and 0 where there is none yet.
+    pub(crate) last: u8,
+
+    /// How many data segments there have to be, if a section says so.
+    pub(crate) data_count: Option<u32>,
 
     /// The parts so far.
     pub(crate) parts: Module,
@@ -122,7 +142,8 @@ impl Progress {
         ensures { result ≡ at_start }
     {
         Progress {
-            last: None,
+            last: 0,
+            data_count: None,
             parts: Module {
                 types: Items::new(Vec::new(alloc)),
                 imports: Items::new(Vec::new(alloc)),
@@ -155,7 +176,7 @@ pub(crate) fn read_section(
 }
 
 // What the next section holds. Refused: `UnknownSection` at an unknown id, and `SectionOrder` at one that does not stand behind the last one.
-fn section_id(last: Option<Part>, cursor: &mut Cursor<'_>) -> Result<Section, Fault>
+fn section_id(last: u8, cursor: &mut Cursor<'_>) -> Result<Section, Fault>
     ensures { Tells (λ section. (section, cursor.new)) result ((section_id_syntax last).read cursor.old) }
 {
     let at = cursor.at();
@@ -169,23 +190,23 @@ fn section_id(last: Option<Part>, cursor: &mut Cursor<'_>) -> Result<Section, Fa
 }
 
 // The section, where it stands behind the last one.
-fn rising(last: Option<Part>, section: Section) -> Option<Section>
+fn rising(last: u8, section: Section) -> Option<Section>
     ensures { result ≡ rising last section }
 {
     match section {
         Section::Custom => Some(Section::Custom),
-        Section::Part(part) if is_behind(last, part) => Some(Section::Part(part)),
-        Section::Part(_) => None,
+        Section::DataCount => in_order(last, Section::DataCount),
+        Section::Part(part) => in_order(last, Section::Part(part)),
     }
 }
 
-// Whether a part's section may stand behind the last one.
-fn is_behind(last: Option<Part>, part: Part) -> bool
-    ensures { result ≡ is_behind last part }
+fn in_order(last: u8, section: Section) -> Option<Section>
+    ensures { result ≡ in_order last section }
 {
-    match last {
-        None => true,
-        Some(last) => last.id() < part.id(),
+    if last < section.rank() {
+        Some(section)
+    } else {
+        None
     }
 }
 
@@ -202,25 +223,40 @@ fn section_content(
         Section::Custom => {
             window.text()?;
         }
-        Section::Part(part) => {
-            read_part(alloc, part, &mut progress.parts, window)?;
+        Section::DataCount => {
+            let count = window.u32_leb()?;
             if !window.is_at_end() {
                 return Err(ReadFault::Bytes(Refusal::SectionSize.at(window.at())));
             }
-            progress.last = Some(part);
+            progress.data_count = Some(count);
+            progress.last = Section::DataCount.rank();
+        }
+        Section::Part(part) => {
+            read_part(
+                alloc,
+                part,
+                progress.data_count,
+                &mut progress.parts,
+                window,
+            )?;
+            if !window.is_at_end() {
+                return Err(ReadFault::Bytes(Refusal::SectionSize.at(window.at())));
+            }
+            progress.last = part.rank();
         }
     }
     Ok(())
 }
 
-// One more part of a module.
+// One more part of a module, which has so many data segments, if that was said.
 fn read_part(
     alloc: Global,
     part: Part,
+    data_count: Option<u32>,
     parts: &mut Module,
     window: &mut Cursor<'_>,
 ) -> Result<(), ReadFault>
-    ensures { Gives (λ _. (parts.new, window.new)) result ((part_of part parts.old).read window.old) }
+    ensures { Gives (λ _. (parts.new, window.new)) result ((part_of part data_count parts.old).read window.old) }
 {
     match part {
         Part::Types => {
@@ -251,7 +287,10 @@ fn read_part(
             let count = body_count(parts.functions.as_slice().len(), window)?;
             parts.bodies = Items::new(items(alloc, Bodies, count, window)?);
         }
-        Part::Segments => parts.segments = Items::new(vector(alloc, DataSegments, window)?),
+        Part::Segments => {
+            let count = segment_count(data_count, window)?;
+            parts.segments = Items::new(items(alloc, DataSegments, count, window)?);
+        }
     }
     Ok(())
 }

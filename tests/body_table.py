@@ -1,8 +1,8 @@
 #!/usr/bin/env python3
 """Bodies by tables: each operator, each refusal at its place, and bodies at their limits.
 
-The spellings and what they mean are those of WebAssembly Core 1.0, section 5.4, written out here by hand;
-the numbers of refusals and the limits are those of docs/FORMATS.md. Nothing here is taken from what the
+The spellings and what they mean are those of WebAssembly Core 1.0, section 5.4, and of Core 2.0, the same section,
+for sign extensions, `call_indirect` and the prefix FC, written out here by hand; the numbers of refusals and the limits are those of docs/FORMATS.md. Nothing here is taken from what the
 program prints.
 
     body_table.py [check|make]      compares crates/body_table/stdin and stdout with the tables, or writes them (tests/lib/tables.py)
@@ -51,6 +51,8 @@ OPERATORS = [
     ("0f", "Return"),
     ("108080808000", "Call(0)"),
     ("110700", "CallIndirect(7)"),
+    ("11078000", "CallIndirect(7)"),
+    ("1187808080008080808000", "CallIndirect(7)"),
     ("1a", "Drop"),
     ("1b", "Select"),
     ("208300", "LocalGet(3)"),
@@ -97,7 +99,11 @@ OF_TWO = [(0x46, 0x4F), (0x51, 0x5A), (0x6A, 0x78), (0x7C, 0x8A)]
 
 # The first and last byte of each run of float operators, and of bytes that are no operator.
 FLOATS = [(0x2A, 0x2B), (0x38, 0x39), (0x43, 0x44), (0x5B, 0x66), (0x8B, 0xA6), (0xA8, 0xAB), (0xAE, 0xBF)]
-UNKNOWN = [(0x06, 0x0A), (0x12, 0x19), (0x1C, 0x1F), (0x25, 0x27), (0xC5, 0xFF)]
+UNKNOWN = [(0x06, 0x0A), (0x12, 0x19), (0x1C, 0x1F), (0x25, 0x27), (0xC5, 0xFB), (0xFD, 0xFF)]
+
+# Numbers behind the prefix FC that are float operators, and those that are none that is known: their first, their last, and some between.
+FLOAT_CODES = ["00", "01", "02", "03", "04", "05", "06", "07", "8000", "8780808000"]
+UNKNOWN_CODES = ["08", "09", "0a0000", "0a", "0b00", "0b", "0c", "0e0000", "11", "7f", "8800", "8a00", "8780808001", "ff01", "ff81808000", "ffffffff0f"]
 
 # Blocks that know their ends, an empty body, and `br_table`s that share the targets.
 BODIES = [
@@ -174,6 +180,27 @@ REFUSALS = [
     ("003f01", 13, 2),
     ("00408000", 13, 2),
     ("0011800001", 13, 4),
+    # Another table than the first, in one byte or in several; the number of the only one, which is no number of 32 bits, or is cut.
+    ("00110001", 13, 3),
+    ("0011007f", 13, 3),
+    ("0011008001", 13, 3),
+    ("0011008100", 13, 3),
+    ("001100ffffffff0f", 13, 3),
+    ("0011008180808080", 2, 3),
+    ("001100808080808000", 2, 3),
+    ("0011008080808010", 3, 3),
+    ("00110080", 1, 4),
+    ("00110080808080", 1, 7),
+    # The prefix: its number is cut, too long, or has spare bits; behind another operator.
+    ("00fc", 1, 2),
+    ("00fc80", 1, 3),
+    ("00fc80808080", 1, 6),
+    ("00fc808080808000", 2, 2),
+    ("00fc8080808010", 3, 2),
+    ("0001fc0700", 5, 2),
+    ("0001fc0b00", 6, 2),
+    # Behind a closed body it is rest like any other byte.
+    ("000bfc00", 14, 2),
     # Bytes behind the closing `end`.
     ("000b00", 14, 2),
     ("000b0b", 14, 2),
@@ -306,6 +333,9 @@ def rows():
         for first, last in runs:
             for byte in range(first, last + 1):
                 yield "00%02x" % byte, refused(number, 1)
+    for codes, number in ((FLOAT_CODES, 5), (UNKNOWN_CODES, 6)):
+        for code in codes:
+            yield "00fc" + code, refused(number, 1)
     yield from numbers()
     yield from BODIES
     for spelling, number, place in REFUSALS:

@@ -158,6 +158,11 @@ REFUSED_BODIES = [
     ("92", 5, 35),
     ("43 00 00 00 00 1A", 5, 35),
     ("41 80 80 80 80 70 1A", 3, 36),
+    # A conversion of a float that saturates, and a copy and a filling of memory; a call through a second table.
+    ("FC 00", 5, 35),
+    ("FC 0A 00 00", 6, 35),
+    ("FC 0B 00", 6, 35),
+    ("11 00 01", 13, 37),
 ]
 
 # a type section, and the number and place where its module is refused, if it is
@@ -173,6 +178,16 @@ TYPE_SECTIONS = [
     ("01 04 01 60 00 00 02 01 00", None),
     # A second type.
     ("01 07 02 60 00 00 60 00 00", None),
+]
+
+# a section before the bodies of the module that does nothing, and the number and place where it is refused then, if it is
+SECTIONS_BEFORE_BODIES = [
+    # The count of data segments, of which there are none.
+    ("0C 01 00", None),
+    ("0C 02 80 00", None),
+    ("0C 01 01", (20, 39)),
+    ("0C 01 7F", (20, 39)),
+    ("0D 01 00", (19, 30)),
 ]
 
 
@@ -207,6 +222,8 @@ def cases():
     for types, fault in TYPE_SECTIONS:
         yield ["invoke", "m", "empty", "10"], module("", types=types), of_module(fault)
     whole = module("")
+    for inserted, fault in SECTIONS_BEFORE_BODIES:
+        yield ["invoke", "m", "empty", "10"], whole[:30] + bytes.fromhex(inserted) + whole[30:], of_module(fault)
     for size in range(len(whole)):
         yield ["invoke", "m", "empty", "10"], whole[:size], of_module(cut_fault(size))
     yield [], None, (2, b"", b"usage\n")

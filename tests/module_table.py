@@ -1,7 +1,7 @@
 #!/usr/bin/env python3
 """Modules by tables: each part, each refusal at its place, and modules that a compiler made.
 
-The bytes are spelt by hand after WebAssembly Core 1.0, section 5.5, and so is what they mean; the numbers of
+The bytes are spelt by hand after WebAssembly Core 1.0, section 5.5, and of Core 2.0, the same section, for the count of data segments; so is what they mean; the numbers of
 refusals and the limits are those of docs/FORMATS.md. Nothing here is taken from what the program prints. In the
 rows of refusals a place is counted from the file's first byte, so the first section stands at 8.
 
@@ -63,10 +63,11 @@ HEADERS = [
 
 IDS_AND_THEIR_ORDER = [
     # Unknown ones.
-    ("0C 00", 19, 8),
+    ("0D 00", 19, 8),
+    ("0D", 19, 8),
     ("80 00", 19, 8),
     ("00 01 00 FF", 19, 11),
-    ("0B 01 00 0C", 19, 11),
+    ("0B 01 00 0D", 19, 11),
     # One that comes twice.
     ("01 01 00 01 01 00", 17, 11),
     ("0A 01 00 0A 01 00", 17, 11),
@@ -75,6 +76,13 @@ IDS_AND_THEIR_ORDER = [
     ("03 01 00 01 01 00", 17, 11),
     ("05 01 00 00 01 00 04 01 00", 17, 14),
     ("0B 01 00 0A", 17, 11),
+    # The count of data segments stands behind element segments and before bodies, and once.
+    ("0C 01 00 09 01 00", 17, 11),
+    ("0C 01 00 00 01 00 08 01 00", 17, 14),
+    ("0C 01 00 0C 01 00", 17, 11),
+    ("0A 01 00 0C 01 00", 17, 11),
+    ("0B 01 00 0C", 17, 11),
+    ("03 01 00 0A 01 00 00 01 00 0C 01 00", 17, 17),
     # What comes first is refused first.
     ("01 01 00 01 81 80 80 80 10", 17, 11),
     ("02 01 00 01 01 00 0C", 17, 11),
@@ -104,6 +112,14 @@ SIZES = [
     ("08 02 00 00", 18, 11),
     ("04 03 00 70 00", 18, 11),
     ("0B 02 00 FF", 18, 11),
+    # The same of a count of data segments.
+    ("0C 00", 18, 10),
+    ("0C 01 80", 18, 11),
+    ("0C 02 00 00", 18, 11),
+    ("0C 02 01 00 0B 01 00", 18, 11),
+    ("0C 06 80 80 80 80 80 00", 2, 10),
+    ("0C 05 80 80 80 80 10", 3, 10),
+    ("0C 02 00", 1, 11),
     # The name of a custom section is no UTF-8.
     ("00 02 01 FF", 4, 11),
     ("00 01 00 00 05 82 00 C3 28 00", 4, 15),
@@ -234,6 +250,32 @@ COUNTS = [
     ("0A 04 01 02 00 0B", 20, 10),
     ("03 02 01 00 0A 04 02 02 00 92", 20, 14),
     ("03 02 01 00 0A 05 81 80 80 80 10", 3, 14),
+    # No data section, and a count of data segments: at the file's end.
+    ("0C 01 01", 20, 11),
+    ("0C 01 01 00 01 00", 20, 14),
+    ("0C 05 FF FF FF FF 0F", 20, 15),
+    ("03 01 00 0C 01 01 0A 01 00", 20, 17),
+    # Fewer data segments than were counted, and more: at their count, and before any of them is read.
+    ("0C 01 01 0B 01 00", 20, 13),
+    ("0C 01 01 0B 02 80 00", 20, 13),
+    ("0C 01 00 0B 06 01 00 41 00 0B 00", 20, 13),
+    ("0C 01 02 0B 06 01 00 41 00 0B 00", 20, 13),
+    ("0C 01 01 0B 0B 02 00 41 00 0B 00 00 41 00 0B 00", 20, 13),
+    ("0C 01 02 0B 06 01 00 00 00 0B 00", 20, 13),
+    ("0C 02 81 01 0B 01 01", 20, 14),
+    # As many, and another fault.
+    ("0C 01 01 0B 06 01 00 00 00 0B 00", 24, 15),
+    ("0C 01 01 0B 01 01", 18, 14),
+    ("0C 01 00 0B 05 80 80 80 80 10", 3, 13),
+    # Both counts differ: the earlier place of two, of which one may be the file's end.
+    ("03 02 01 00 0C 01 01", 20, 15),
+    ("03 02 01 00 0C 01 01 0A 01 00", 20, 17),
+    ("03 02 01 00 0C 01 01 0B 01 00", 20, 17),
+    ("03 02 01 00 0C 01 01 0A 01 00 0B 01 00", 20, 17),
+    # One of them alone.
+    ("03 02 01 00 0C 01 01 0A 04 01 02 00 0B", 20, 21),
+    ("03 02 01 00 0C 01 01 0A 04 01 02 00 0B 0B 01 00", 20, 23),
+    ("03 02 01 00 0C 01 00 0B 01 00", 20, 18),
     # Too many functions, imported ones counted; as many as may be, of which the first is missing.
     ("03 02 91 4E", 21, 10),
     ("03 02 90 4E", 18, 12),
@@ -274,6 +316,10 @@ CONTENTS = [
     ("03 02 01 00 0A 07 01 05 00 0E 81 20 0B", 12, 18),
     ("03 02 01 00 0A 09 01 07 00 01 0E 81 A0 00 0B", 12, 19),
     ("03 02 01 00 0A 06 01 04 00 3F 01 0B", 13, 18),
+    ("03 02 01 00 0A 07 01 05 00 11 00 01 0B", 13, 19),
+    ("03 02 01 00 0A 07 01 05 00 FC 07 00 0B", 5, 17),
+    ("03 02 01 00 0A 08 01 06 00 FC 0A 00 00 0B", 6, 17),
+    ("03 02 01 00 0A 04 01 02 00 FC", 1, 18),
     ("03 02 01 00 0A 0A 01 08 00 41 80 80 80 80 08 0B", 3, 18),
     ("03 02 01 00 0A 0A 01 08 00 41 80 80 80 80 80 0B", 2, 18),
     ("03 03 02 00 00 0A 08 02 02 00 0B 03 00 FE 0B", 6, 21),
@@ -467,6 +513,23 @@ PARTS = [
         "00 01 00 00 03 01 61 FF 01 01 00 02 01 00 03 01 00 00 82 80 80 80 00 01 61 04 01 00 05 81 00 00 06 01 00 "
         "07 01 00 08 01 09 09 01 00 00 06 02 C3 A9 00 0C 0B 0A 01 00 0B 02 80 00 00 03 02 C3 A9 00 01 00",
         "start: 9; ",
+    ),
+    # The count of data segments: as many as there are, none without a data section or with an empty one, in one byte or in several.
+    (
+        "08 01 09 09 01 00 0C 01 01 0A 01 00 0B 08 01 00 41 08 0B 02 68 69",
+        "start: 9; " + part("segments", segment(0, constant("I32", 8), 104, 105)),
+    ),
+    (
+        "00 01 00 0C 05 82 80 80 80 00 00 01 00 0B 0D 82 00 00 41 00 0B 00 01 42 01 0B 01 FF",
+        part("segments", segment(0, constant("I32", 0)), segment(1, constant("I64", 1), 255)),
+    ),
+    ("0C 01 00", ""),
+    ("09 01 00 0C 02 80 00 0A 01 00 00 01 00", ""),
+    ("03 02 01 00 0C 01 00 0A 04 01 02 00 0B 0B 01 00", part("functions", 0) + body("", "End", "")),
+    # A table index in two bytes.
+    (
+        "03 02 01 00 0A 08 01 06 00 11 05 80 00 0B",
+        part("functions", 0) + body("", "CallIndirect(5), End", ""),
     ),
 ]
 

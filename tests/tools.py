@@ -194,9 +194,15 @@ FLOAT = one("43 00 00 80 3F 43 00 00 80 3F 92 1A")
 LOCAL = one("", "01 01 7D")
 PARAMETER = named(module(types=["60 00 00", "60 01 7C 01 7F"], functions=["00", "01"], exports=[START + "00"], bodies=["", "41 00"]), {0: b"first", 1: b"taken"})
 TAIL_CALL, FILLED, SATURATED = one("12 01"), one("41 00 41 00 41 00 FC 0B 00", memories=["00 01"]), one("43 00 00 00 00 FC 00 1A")
-REFERENCES = one("41 00 11 00 80 80 80 80 00", tables=["70 00 01"])
-OBJECT = module(exports=[START + "00"], bodies=[""])
-OBJECT = OBJECT[:30] + bytes([12, 1, 0]) + OBJECT[30:] + custom(b"linking", 4)
+TRUNCATED = one("41 00 FC 02 1A")
+REFERENCES = one("41 00 11 00 81 80 80 80 00", tables=["70 00 01"])
+# `START` is exported of one function, whose section of bodies begins at 30; a count of data segments, and tags of exceptions, before it
+STARTED = module(functions=["00"], exports=[START + "00"], bodies=[""])
+COUNTED, TAGGED = (STARTED[:30] + inserted + STARTED[30:] for inserted in (b"\x0c\x01\x01", b"\x0d\x01\x00"))
+FULL = module(functions=["00"], exports=[START + "00"], bodies=[""], segments=["00 41 00 0B 00"] * 2)
+FULL = FULL[:30] + b"\x0c\x01\x01" + FULL[30:]
+OBJECT = module(imports=[imported(b"env", b"__linear_memory", "02 00 01")], functions=["00"], bodies=[""])
+OBJECT = OBJECT[:-6] + b"\x0c\x01\x00" + OBJECT[-6:] + custom(b"linking", 4)
 RANDOM = named(
     module(types=CALLS, imports=[imported(WASI, b"fd_write", "00 01"), imported(WASI, b"random_get", "00 02")], functions=["00"], exports=[START + "02"],
            bodies=["41 00 41 00 10 01 1A"]),
@@ -214,6 +220,8 @@ MODULE_CASES = [
      "|floats function 0 <first>: 3 float operators, the first f32.const at byte 36|" + NO_FLOATS),
     (SATURATED, (5, 36), "a float operator", "where {at}, in the section of bodies|in function 0 <first>|operator f32.const, number 0 of its body"
      "|floats function 0 <first>: 2 float operators, the first f32.const at byte 36|" + NO_FLOATS),
+    (TRUNCATED, (5, 38), "a float operator", "where {at}, in the section of bodies|in function 0 <first>|operator i32.trunc_sat_f64_s, number 1 of its body"
+     "|floats function 0 <first>: 1 float operator, the first i32.trunc_sat_f64_s at byte 38|" + NO_FLOATS),
     (TAIL_CALL, (6, 36), "a byte of no operator that is known here", "where {at}, in the section of bodies|in function 0 <first>"
      "|operator return_call, number 0 of its body|found the byte 12|means tail calls of a later version of WebAssembly|%s, and without -mtail-call." % CORE_ONE),
     (FILLED, (6, 47), "a byte of no operator that is known here", "where {at}, in the section of bodies|in function 0 <first>"
@@ -222,7 +230,7 @@ MODULE_CASES = [
      "|floats function 0 <first>: 1 local of floats|" + NO_FLOATS),
     (PARAMETER, (7, 16), "a float type", "where {at}, in the section of types|part type 1: (f64) -> (i32)|floats function 1 <taken>: its type is (f64) -> (i32)|" + NO_FLOATS),
     (REFERENCES, (13, 46), "a table or a memory other than the first", "where {at}, in the section of bodies|in function 0 <first>"
-     "|operator call_indirect, number 1 of its body|found the byte 80|%s." % CORE_ONE),
+     "|operator call_indirect, number 1 of its body|found the byte 81|%s." % CORE_ONE),
     (b"(module\n  (func))\n", (15, 0), "the file is no binary module", "found the bytes 28 6D 6F 64 75 6C 65 0A|means it is a module in the text format"
      "|do Assemble it first: wat2wasm NAME.wat -o NAME.wasm."),
     (b"\x7fELF\x02\x01\x01\x00" + bytes(60), (15, 0), "the file is no binary module", "found the bytes 7F 45 4C 46 02 01 01 00"
@@ -231,10 +239,16 @@ MODULE_CASES = [
      "|means it is a text that begins with '#include <stdio.h> int main(vo'|do Name the module that was built of it, and not its source."),
     (bytes.fromhex("00 61 73 6D 0D 00 01 00"), (16, 4), "the file is of another version, or a component", "found the bytes 00 61 73 6D 0D 00 01 00"
      "|do It is a component: make a core module (wasm32-wasi, wasm32-wasip1) and no component."),
-    (OBJECT, (19, 30), "a section that WebAssembly Core 1.0 has not", "where {at}, in the section of data count|found a section with the id 12, the count of data segments"
+    (TAGGED, (19, 30), "a section of no kind that is known here", "where {at}, in the section of tags|found a section with the id 13, the tags of exceptions"
+     "|%s (13 comes of exceptions)." % CORE_ONE),
+    (OBJECT, (52, 0), "an import that is no function", "where import 0, the memory __linear_memory of the module env"
      "|means it is an object file, which was compiled and not linked (it has the custom section linking)"
      "|do Link it: clang --target=wasm32 -nostdlib -Wl,--no-entry,--stack-first,--strip-debug NAME.o -o NAME.wasm"),
-    (module(functions=["00"]), (20, 18), "not as many bodies as functions", "where {at}, the end of the file|do Give each function its body; a file without bodies is no whole module."),
+    (COUNTED, (20, 39), "two counts that differ", "where {at}, the end of the file|found 0 data segments, where the section of data count says 1"
+     "|do Take the section of data count out, or write the number of data segments there: whatever wrote the file has a fault."),
+    (FULL, (20, 41), "two counts that differ", "where {at}, in the section of data|found 2 data segments, where the section of data count says 1"
+     "|do Take the section of data count out, or write the number of data segments there: whatever wrote the file has a fault."),
+    (module(functions=["00"]), (20, 18), "two counts that differ", "where {at}, the end of the file|found 1 function and 0 bodies|do Give each function its body; a file without bodies is no whole module."),
     (DEBUG, (21, 0), "a limit is passed", "found %d bytes, of which a file may have 4194304|room %d bytes: debug sections (custom, .debug_*)|room 112 bytes: the custom section producers"
      "|room 12 bytes: the section of exports|room 6 bytes: the section of types|room 6 bytes: the section of bodies|room 4 bytes: the section of functions"
      "|do Leave the debug sections out: link with -Wl,--strip-debug (Rust: -C strip=debuginfo), or compile without -g." % (36 + (5 << 20) + 33 + 112, (5 << 20) + 33)),

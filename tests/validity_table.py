@@ -271,6 +271,10 @@ CALLS = [
     calling("41 00 11 00 00", broken(30, 1, 0)),
     calling("41 00 11 07 00", broken(30, 1, 0), tables=[TABLE]),
     calling("41 00 11 00 00", valid((1, 0), (1, 0), (1, 0)), tables=[TABLE]),
+    # The index of the table in two bytes, and in five.
+    calling("41 00 11 00 80 00", broken(30, 1, 0)),
+    calling("41 00 11 00 80 80 80 80 00", valid((1, 0), (1, 0), (1, 0)), tables=[TABLE]),
+    calling("41 00 11 00 80 00 1A", broken(32, 2, 0), tables=[TABLE]),
     calling("42 00 11 00 00", broken(31, 1, 0), tables=[TABLE]),
     calling("11 00 00", broken(32, 0, 0), tables=[TABLE]),
     calling("41 00 42 00 41 00 11 01 00 1A", valid((3, 0), (1, 0), (1, 0)), tables=[TABLE]),

@@ -1,6 +1,6 @@
 """A reader of modules that is written from the binary format alone (WebAssembly Core 1.0, chapter 5, without floating
-point and with the sign extensions of Core 2.0, and the limits and refusal numbers of docs/FORMATS.md). Nothing here is
-taken from the repository's code.
+point; of Core 2.0 the sign extensions, the table index of `call_indirect`, the prefix FC and the count of data segments;
+and the limits and refusal numbers of docs/FORMATS.md). Nothing here is taken from the repository's code.
 
 `refusal` answers the number and the place of the first refusal of a file, or None where it is read.
 """
@@ -16,6 +16,8 @@ INTEGER_OPERATORS = {*range(0x45, 0x5B), *range(0x67, 0x8B), 0xA7, 0xAC, 0xAD, *
 FLOAT_OPERATORS = {
     0x2A, 0x2B, 0x38, 0x39, 0x43, 0x44, *range(0x5B, 0x67), *range(0x8B, 0xA7), *range(0xA8, 0xAC), *range(0xAE, 0xC0),
 }
+# What Core 2.0 has behind the prefix FC: the conversions of floats that saturate, and other operators, none of which is taken.
+SATURATING = range(8)
 BARE = {0x00, 0x01, 0x0F, 0x1A, 0x1B} | INTEGER_OPERATORS
 INDEXED = {0x0C, 0x0D, 0x10, *range(0x20, 0x25)}
 ACCESSES = {0x28, 0x29, *range(0x2C, 0x38), *range(0x3A, 0x3F)}
@@ -161,7 +163,11 @@ def immediates(window, byte, place):
             window.number()
     elif byte == 0x11:
         window.number()
-        window.only((0,), RESERVED)
+        table_place = window.at
+        if window.number() != 0:
+            raise Refused(RESERVED, table_place)
+    elif byte == 0xFC:
+        raise Refused(FLOAT_OPERATOR if window.number() in SATURATING else UNKNOWN_OPERATOR, place)
     elif byte in ACCESSES:
         window.number()
         window.number()
@@ -193,7 +199,8 @@ class Reader:
 
     def __init__(self):
         self.imported = [0, 0, 0, 0]
-        self.functions = self.bodies = 0
+        self.functions = self.bodies = self.segments_read = 0
+        self.segments_due = None
 
     def types(self, window):
         for _ in range(window.limited(0, 1_000)):
@@ -264,8 +271,15 @@ class Reader:
             window.pass_by(size)
             body(Window(window.data, start, window.at, CUT_SHORT))
 
+    def data_count(self, window):
+        self.segments_due = window.number()
+
     def segments(self, window):
-        for _ in range(window.number()):
+        place = window.at
+        self.segments_read = window.number()
+        if self.segments_due not in (None, self.segments_read):
+            raise Refused(COUNTS_DIFFER, place)
+        for _ in range(self.segments_read):
             window.number()
             constant(window)
             window.pass_by(window.number())
@@ -273,7 +287,7 @@ class Reader:
     def section(self, section_id, window):
         parts = [
             self.types, self.imports, self.function_indices, self.tables, self.memories, self.globals,
-            self.exports, self.start, self.elements, self.code, self.segments,
+            self.exports, self.start, self.elements, self.code, self.segments, self.data_count,
         ]  # fmt: skip
         if section_id == 0:
             window.name()
@@ -281,6 +295,10 @@ class Reader:
         parts[section_id - 1](window)
         if not window.is_at_end():
             raise Refused(SECTION_SIZE, window.at)
+
+
+# The order of sections, of which the custom ones, of id 0, stand anywhere (Core 2.0, section 5.5.16).
+ORDER = [1, 2, 3, 4, 5, 6, 7, 8, 9, 12, 10, 11]
 
 
 def read(data):
@@ -292,20 +310,21 @@ def read(data):
     file = Window(data, 0, len(data), CUT_SHORT)
     file.pass_by(len(HEADER))
     reader = Reader()
-    last = 0
+    still = ORDER
     while not file.is_at_end():
         place = file.at
         section_id = file.byte()
-        if section_id > 11:
+        if section_id not in (0, *ORDER):
             raise Refused(UNKNOWN_SECTION, place)
-        if section_id != 0 and section_id <= last:
-            raise Refused(SECTION_ORDER, place)
-        last = section_id or last
+        if section_id != 0:
+            if section_id not in still:
+                raise Refused(SECTION_ORDER, place)
+            still = still[still.index(section_id) + 1 :]
         size = file.number()
         start = file.at
         file.pass_by(size)
         reader.section(section_id, Window(data, start, file.at, SECTION_SIZE))
-    if reader.functions != reader.bodies:
+    if reader.functions != reader.bodies or reader.segments_due not in (None, reader.segments_read):
         raise Refused(COUNTS_DIFFER, len(data))
 
 

@@ -128,7 +128,7 @@ class Bytes:
         if byte == 0x0E:
             return byte, self.vector(self.number), self.number()
         if byte == 0x11:
-            return byte, self.number(), self.byte()
+            return byte, self.number(), self.number()
         if byte in LOADS or byte in STORES:
             return byte, self.number(), self.number()
         if byte in (0x3F, 0x40):

@@ -24,8 +24,8 @@ RULES = {
     16: "the file is of another version, or a component",
     17: "sections in another order, or one twice",
     18: "the size of a section does not fit what it holds",
-    19: "a section that WebAssembly Core 1.0 has not",
-    20: "not as many bodies as functions",
+    19: "a section of no kind that is known here",
+    20: "two counts that differ",
     21: "a limit is passed",
     22: "an unknown kind of an import or an export, or mutability",
     23: "limits of an unknown form",
@@ -221,11 +221,6 @@ def explain_unknown_operator(report, survey, place):
     report.add("found", "the byte %02X" % code)
     found = survey.body_at(place)
     name = found and survey.operator_at(found[1], place)
-    if name and name[1].name.startswith(("i32.trunc_sat", "i64.trunc_sat")):
-        report.add("means", "floating point: a conversion that saturates")
-        add_floats(report, survey)
-        report.add("do", NO_FLOATS)
-        return
     feature = feature_of(code, name and name[1].name)
     if feature:
         report.add("means", "%s of a later version of WebAssembly" % feature[0])
@@ -246,14 +241,33 @@ def feature_of(code, name):
     return ("exceptions", "-fwasm-exceptions") if code in (0x06, 0x07, 0x08, 0x09, 0x18, 0x19) else None
 
 
-def explain_section(report, survey, place):
-    add_place(report, survey, place)
-    report.add("found", "a section with the id %d%s" % (survey.data[place], ", the count of data segments" if survey.data[place] == 12 else ""))
-    if any(section.custom == "linking" for section in survey.sections):
+def add_object(report, survey):
+    """Tells where it is an object file; answers whether it is one."""
+    is_object = any(section.custom == "linking" for section in survey.sections)
+    if is_object:
         report.add("means", "it is an object file, which was compiled and not linked (it has the custom section linking)")
         report.add("do", "Link it: clang --target=wasm32 -nostdlib -Wl,--no-entry,--stack-first,--strip-debug NAME.o -o NAME.wasm")
+    return is_object
+
+
+def explain_section(report, survey, place):
+    add_place(report, survey, place)
+    report.add("found", "a section with the id %d%s" % (survey.data[place], ", the tags of exceptions" if survey.data[place] == 13 else ""))
+    if not add_object(report, survey):
+        report.add("do", "Compile for WebAssembly Core 1.0: for LLVM's compilers -mcpu=mvp (13 comes of exceptions).")
+
+
+def explain_counts(report, survey, place):
+    """Two counts that differ: those of functions and bodies, or that of the data segments and what the section of data count says."""
+    add_place(report, survey, place)
+    section, counts = survey.section_at(place), survey.counts
+    functions, bodies = counts.get(3, 0), counts.get(10, 0)
+    if functions != bodies and not (section and section.number == 11):
+        report.add("found", "%s and %s" % (counted(functions, "function"), counted(bodies, "body", "bodies")))
+        report.add("do", ADVICE[20])
     else:
-        report.add("do", "Compile for WebAssembly Core 1.0: for LLVM's compilers -mcpu=mvp (12 comes of bulk memory, 13 of exceptions).")
+        report.add("found", "%s, where the section of data count says %d" % (counted(counts.get(11, 0), "data segment"), counts[12]))
+        report.add("do", "Take the section of data count out, or write the number of data segments there: whatever wrote the file has a fault.")
 
 
 def explain_cut(report, survey, place):
@@ -277,6 +291,8 @@ def explain_bytes(report, survey, number, place):
         explain_unknown_operator(report, survey, place)
     elif number == 19:
         explain_section(report, survey, place)
+    elif number == 20:
+        explain_counts(report, survey, place)
     elif number == 1:
         explain_cut(report, survey, place)
     else:
@@ -337,7 +353,8 @@ def explain_import(report, survey, number, item):
         add_callers(report, survey, item)
     if number == 52:
         option = {1: "-Wl,--import-table", 2: "-Wl,--import-memory", 3: "what imports it (an object that is not linked does)"}[kind]
-        report.add("do", "Leave out %s: the module has its own." % option)
+        if not add_object(report, survey):
+            report.add("do", "Leave out %s: the module has its own." % option)
     elif number == 51:
         report.add("wanted", type_text(interpreter.HOSTS[names[1].encode()]))
         report.add("do", "Copy the declarations of examples/host.h.")

@@ -230,6 +230,8 @@ class Survey:
             count = self.counts[section.number] = scan.number()
             for _ in range(count):
                 readers[section.number](scan)
+        elif section.number in (11, 12):
+            self.counts[section.number] = scan.number()
 
     def read_type(self, scan):
         place = scan.at

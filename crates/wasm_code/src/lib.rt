@@ -1,6 +1,6 @@
 //! Function bodies as a module's bytes spell them.
 //!
-//! `read_body` reads the bytes of one body, and answers it exactly where they spell one within the limits; else it says with which number and at which place they are refused (WebAssembly Core 1.0, sections 5.4 and 5.5.13, without floating point and with the sign extensions of Core 2.0).
+//! `read_body` reads the bytes of one body, and answers it exactly where they spell one within the limits; else it says with which number and at which place they are refused (WebAssembly Core 1.0, sections 5.4 and 5.5.13, without floating point; of Core 2.0 with the sign extensions and the table index of `call_indirect`).
 //! `specs/` has what bytes spell: which item each byte begins and what follows it, the groups of locals, and the structured sequence that the items of a body are in order.
 //! It stands on `wasm_ops`, whose cursor reads the numbers.
 #![tactic(auto)]

@@ -7,7 +7,7 @@ ghost use Rattle.wasm_ops.specs.WellFormed.{IsWellFormed};
 ghost use Rattle.wasm_reader.specs.Modules.{SpellsModule, RefusesModule};
 ghost use Rattle.wasm_reader.specs.Structure.{IsModule};
 
-/// A module that bytes spell is the header and sections: the ids of those that are not custom strictly rise, each custom one begins with a name, and each part of the module is what its section spells, or empty where there is none. It is well formed.
+/// A module that bytes spell is the header and sections: those that are not custom stand in their order, each at most once, each custom one begins with a name, and each part of the module is what its section spells, or empty where there is none. Where a section says how many data segments there are, there are as many. It is well formed.
 pub fn header_and_sections()
     ensures structure { (bytes : List ℕ) (parts : Module) → SpellsModule bytes parts → IsModule bytes parts }
     ensures formed { (bytes : List ℕ) (parts : Module) → AreBytes bytes → SpellsModule bytes parts → IsWellFormed parts }

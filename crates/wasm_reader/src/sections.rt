@@ -200,6 +200,7 @@ fn rising(last: u8, section: Section) -> Option<Section>
     }
 }
 
+// The section, where its rank is above the last one.
 fn in_order(last: u8, section: Section) -> Option<Section>
     ensures { result ≡ in_order last section }
 {

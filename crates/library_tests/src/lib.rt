@@ -1,6 +1,6 @@
 //! Tests of the libraries below: what no clause says, and that each call can succeed.
 //!
-//! It has no function of its own. A crate with tests is proved twice, so the tests that name public items alone stand here, over libraries that are proved once. Tables of cases are read by the `_table` programs.
+//! It has no function of its own. A crate with tests is proved twice, so the tests that name public items alone stand here, over libraries that are proved once. Tables of cases are read by the programs that print tables.
 #![tactic(auto)]
 
 #[cfg(test)]

@@ -4,14 +4,20 @@
 #![tactic(auto)]
 
 #[cfg(test)]
+mod adapters;
+#[cfg(test)]
 mod boards;
 #[cfg(test)]
 mod cursors;
 #[cfg(test)]
 mod operations;
 #[cfg(test)]
+mod pages;
+#[cfg(test)]
 mod pools;
 #[cfg(test)]
 mod queues;
+#[cfg(test)]
+mod shelves;
 #[cfg(test)]
 mod vessels;

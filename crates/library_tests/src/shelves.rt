@@ -1,7 +1,8 @@
-// Which bytes a shelf answers, by values written out by hand, and each of its calls failing in
-// turn.
-use super::*;
-use std::alloc::AllocError;
+//! Which bytes a shelf answers, by values written out by hand, and each of its calls failing in
+//! turn.
+
+use outside::{Fetch, Library, Shelf, Text};
+use std::alloc::{AllocError, Global};
 use std::process::Abort;
 use std::test::Fail;
 

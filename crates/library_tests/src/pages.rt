@@ -1,6 +1,8 @@
-// What a page takes, by values written out by hand, in rooms of many sizes and with each of its
-// calls cut in turn.
-use super::*;
+//! What a page takes, by values written out by hand, in rooms of many sizes and with each of its
+//! calls cut in turn.
+
+use outside::{Cut, Page, Sink};
+use std::alloc::{AllocError, Global};
 use std::process::Abort;
 use std::test::Fail;
 

@@ -1,11 +1,15 @@
-// The adapters over a file and the streams of the system, and over fakes that fail as these may.
-ghost use Rattle.std.specs.Prelude.{◌≤◌, IfOk};
+//! The adapters over a file and the streams of the system, and over fakes that fail as these may.
+ghost use Rattle.std.specs.Prelude.{◌≤◌, IfOk, IsErr};
 
-use super::*;
+use outside::{Failed, Fetch, FileLibrary, Library, Sink, StdNotes, StdSink};
+use std::alloc::{Allocator, Global};
+use std::fs::{Metadata, OpenFile, OpenOptions};
+use std::io::{ErrorKind, Read, Seek, SeekFrom, Write};
 use std::path::PathBuf;
 use std::process::Abort;
+use std::rt::Files;
 use std::test::Fail;
-use std::{env, process};
+use std::{env, fs, io, process};
 
 /// What the next call of a stream does.
 #[derive(Clone, Copy, Debug, PartialEq, Eq)]
@@ -54,14 +58,109 @@ impl Read for Source {
     }
 }
 
-/// A stream that is written and flushed by steps.
-#[derive(Drop)]
-struct Drain {
-    steps: Steps,
-    taken: Vec<u8>,
+// The answer of a call that no test makes.
+fn unsupported<T>() -> io::Result<T>
+    ensures { IsErr result }
+{
+    Err(io::Error::from(ErrorKind::Unsupported))
 }
 
-impl Write for Drain {
+// A file is written nowhere in this crate, and has no place.
+impl Write for Source {
+    fn write(&mut self, _buf: &[u8]) -> io::Result<usize> {
+        unsupported()
+    }
+
+    fn flush(&mut self) -> io::Result<()> {
+        unsupported()
+    }
+}
+
+impl Seek for Source {
+    fn seek(&mut self, _to: SeekFrom) -> io::Result<u64> {
+        unsupported()
+    }
+}
+
+impl OpenFile for Source {
+    fn metadata(&self) -> io::Result<Metadata> {
+        unsupported()
+    }
+
+    fn set_len(&self, _size: u64) -> io::Result<()> {
+        unsupported()
+    }
+
+    fn sync_all(&self) -> io::Result<()> {
+        unsupported()
+    }
+
+    fn sync_data(&self) -> io::Result<()> {
+        unsupported()
+    }
+}
+
+/// Files that all have eight bytes and are read by these steps.
+#[derive(Drop)]
+struct Stepped(&'static [Step]);
+
+impl Files for Stepped {
+    type File = Source;
+
+    type Dir = Source;
+
+    fn open_file(&self, _how: &OpenOptions, _path: &str) -> io::Result<Source> {
+        Ok(Source {
+            steps: Steps(self.0),
+            bytes: b"abcdefgh",
+        })
+    }
+
+    fn open_dir(&self, _path: &str) -> io::Result<Source> {
+        unsupported()
+    }
+
+    fn metadata(&self, _path: &str) -> io::Result<Metadata> {
+        unsupported()
+    }
+
+    fn symlink_metadata(&self, _path: &str) -> io::Result<Metadata> {
+        unsupported()
+    }
+
+    fn copy(&self, _from: &str, _to: &str) -> io::Result<u64> {
+        unsupported()
+    }
+
+    fn rename(&self, _from: &str, _to: &str) -> io::Result<()> {
+        unsupported()
+    }
+
+    fn remove_file(&self, _path: &str) -> io::Result<()> {
+        unsupported()
+    }
+
+    fn create_dir(&self, _path: &str) -> io::Result<()> {
+        unsupported()
+    }
+
+    fn remove_dir(&self, _path: &str) -> io::Result<()> {
+        unsupported()
+    }
+
+    fn remove_dir_all<B: Allocator>(&self, _alloc: B, _path: &str) -> io::Result<()> {
+        unsupported()
+    }
+}
+
+/// A stream that is written and flushed by steps.
+#[derive(Drop)]
+struct Drain<'a> {
+    steps: Steps,
+    taken: &'a mut Vec<u8>,
+}
+
+impl<'a> Write for Drain<'a> {
     fn write(&mut self, buf: &[u8]) -> io::Result<usize> {
         let moved = self.steps.next(buf.len())?;
         self.taken.extend_from_slice(buf.split_at(moved).0)?;
@@ -141,19 +240,16 @@ fn reaches_the_streams_of_the_system(rt: HostRuntime) {
 }
 
 // Reads at most five bytes, and one more, of a file of eight.
-fn expect_read<R: Files + Abort>(
-    rt: &R,
+fn expect_read(
+    rt: &impl Abort,
     alloc: Global,
     steps: &'static [Step],
     want: Result<&str, Fetch>,
     faults: u64,
 ) {
-    let mut library = FileLibrary::new(rt);
-    let mut file = Source {
-        steps: Steps(steps),
-        bytes: b"abcdefgh",
-    };
-    let answer = library.read_file(alloc, &mut file, 5);
+    let files = Stepped(steps);
+    let mut library = FileLibrary::new(&files);
+    let answer = library.read(alloc, "any", 5);
     assert!(rt; is_answer(&answer, want), "{steps:?}");
     assert_eq!(rt; library.faults(), faults, "{steps:?}");
     drop(answer);
@@ -190,14 +286,15 @@ fn expect_written(
     taken: &str,
     faults: u64,
 ) {
+    let mut bytes = Vec::new(alloc);
     let mut sink = StdSink::new(Drain {
         steps: Steps(steps),
-        taken: Vec::new(alloc),
+        taken: &mut bytes,
     });
     assert_eq!(rt; sink.write(b"piece"), want, "{steps:?}");
-    assert_eq!(rt; sink.stream.taken.as_slice(), taken.as_bytes(), "{steps:?}");
     assert_eq!(rt; sink.faults(), faults, "{steps:?}");
     drop(sink);
+    assert_eq!(rt; bytes.as_slice(), taken.as_bytes(), "{steps:?}");
 }
 
 #[test]

@@ -1,7 +1,7 @@
 #!/usr/bin/env python3
-"""Times the built program `http_table` on streams of 64 MiB and of half that size.
+"""Times the built program `server_tables` on streams of 64 MiB and of half that size.
 
-    http_front.py        the program has to be built (`rt run` in crates/http_table does it)
+    http_front.py        the program has to be built (`rt run` in crates/server_tables does it)
 
 For each kind of stream it prints the bytes a second and how the time of the whole is to that of half:
 where the work is linear, the ratio is 2. A time is the least of several runs.
@@ -10,10 +10,11 @@ where the work is linear, the ratio is 2. A time is the least of several runs.
 import os
 import subprocess
 import sys
+import tempfile
 import time
 
 TOP = os.path.join(os.path.dirname(os.path.abspath(__file__)), "..")
-PROGRAM = os.path.join(TOP, "crates", "http_table", "out", "http_table")
+PROGRAM = os.path.join(TOP, "crates", "server_tables", "out", "server_tables")
 RUNS = 3
 WHOLE = 64 << 20
 
@@ -29,13 +30,15 @@ KINDS = [
 
 
 def seconds(count, step, piece, items):
-    line = "times %d %d %s\n" % (count, step, piece)
     times = []
-    for _ in range(RUNS):
-        start = time.monotonic()
-        done = subprocess.run([PROGRAM], input=line.encode(), capture_output=True, check=True, timeout=600)
-        times.append(time.monotonic() - start)
-        assert done.stdout == b" %d\n" % items, done.stdout[:100]
+    with tempfile.TemporaryDirectory() as folder:
+        with open(os.path.join(folder, "cases"), "w", encoding="ascii") as file:
+            file.write("times %d %d %s\n" % (count, step, piece))
+        for _ in range(RUNS):
+            start = time.monotonic()
+            done = subprocess.run([PROGRAM, "http", "cases"], cwd=folder, capture_output=True, check=True, timeout=600)
+            times.append(time.monotonic() - start)
+            assert done.stdout == b" %d\n" % items, done.stdout[:100]
     return min(times)
 
 

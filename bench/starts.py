@@ -1,7 +1,7 @@
 #!/usr/bin/env python3
 """Times requests from their start to their answer: `start`, `run_turn` and `settle` of a function that does nothing, on one vessel.
 
-    starts.py [COUNT]      the program `turns_table` has to be built (`rt run` in crates/turns_table does it)
+    starts.py [COUNT]      the program `wasm_tables` has to be built (`rt run` in crates/wasm_tables does it)
 
 For a module without a memory, and for such of 1, 16 and 256 pages, it prints how many requests are begun and answered in a second, and how
 much longer each takes than without a memory: this is what the rinse of the memory costs, which is all that its pages add. A request is
@@ -20,7 +20,7 @@ sys.path.insert(0, os.path.join(TOP, "tests"))
 
 from lib.module_writer import module, number  # noqa: E402
 
-PROGRAM = os.path.join(TOP, "crates", "turns_table", "out", "turns_table")
+PROGRAM = os.path.join(TOP, "crates", "wasm_tables", "out", "wasm_tables")
 START = ["06 5F 73 74 61 72 74 00 00"]
 RUNS = 5
 PAGES = [0, 1, 16, 256]
@@ -38,7 +38,7 @@ def seconds(folder, data, pages, count):
     least = float("inf")
     for _ in range(RUNS):
         begun = used()
-        done = subprocess.run([PROGRAM], cwd=folder, capture_output=True, check=True, timeout=600)
+        done = subprocess.run([PROGRAM, "turns", "cases"], cwd=folder, capture_output=True, check=True, timeout=600)
         least = min(least, used() - begun)
         assert done.stdout == b"answered %d\n" % count, done.stdout[:100]
     return least

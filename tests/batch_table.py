@@ -1,7 +1,7 @@
 #!/usr/bin/env python3
 """Batches of requests by several workers: batches, and what an interpreter apart from the repository's code says of their answers.
 
-    batch_table.py [check|make]      compares crates/batch_table/stdin and stdout with them, or writes them (tests/lib/tables.py)
+    batch_table.py [check|make]      compares crates/wasm_tables/data/batch and what stdout there has of it with them, or writes them (tests/lib/tables.py)
 
 Whatever the workers, the policy and the berths of a batch, the answer to each of its requests is that of the request alone: verdict
 and units are its own, and its turns are those of its prices in the batch's quantum (docs/DEFINITIONS.md).
@@ -161,8 +161,8 @@ def batches():
 def files():
     read, wanted = zip(*batches())
     stdin, stdout = "".join(tables.text(lines) + "\n" for lines in read), "".join(map(tables.text, wanted))
-    return {"stdin": stdin, "stdout": stdout}
+    return stdin, stdout
 
 
 if __name__ == "__main__":
-    sys.exit(tables.main("batch_table", files, sys.argv[1:]))
+    sys.exit(tables.main("batch", files, sys.argv[1:]))

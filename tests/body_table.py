@@ -5,7 +5,7 @@ The spellings and what they mean are those of WebAssembly Core 1.0, section 5.4,
 for sign extensions, `call_indirect` and the prefix FC, written out here by hand; the numbers of refusals and the limits are those of docs/FORMATS.md. Nothing here is taken from what the
 program prints.
 
-    body_table.py [check|make]      compares crates/body_table/stdin and stdout with the tables, or writes them (tests/lib/tables.py)
+    body_table.py [check|make]      compares crates/wasm_tables/data/body and what stdout there has of it with the tables, or writes them (tests/lib/tables.py)
 """
 
 import sys
@@ -353,8 +353,8 @@ def rows():
 
 def files():
     stdin, stdout = zip(*rows())
-    return {"stdin": tables.text(stdin), "stdout": tables.text(stdout)}
+    return tables.text(stdin), tables.text(stdout)
 
 
 if __name__ == "__main__":
-    sys.exit(tables.main("body_table", files, sys.argv[1:]))
+    sys.exit(tables.main("body", files, sys.argv[1:]))

@@ -197,8 +197,8 @@ def made():
         noted("edf", (10, 1), [(0, 0), (0, 0), (5, 1), (12, 1)], "0 1 2 2 2 2 3 0 0 0 1 1 1 3 3 3"),
     ]
     asked = [line for block in blocks for line in block.text()]
-    return {"stdin": tables.text(asked), "stdout": tables.text(line for block in blocks for line in block.printed)}
+    return tables.text(asked), tables.text(line for block in blocks for line in block.printed)
 
 
 if __name__ == "__main__":
-    sys.exit(tables.main("command_table", made, sys.argv[1:]))
+    sys.exit(tables.main("command", made, sys.argv[1:]))

@@ -1,7 +1,7 @@
 #!/usr/bin/env python3
 """Configurations, as docs/FORMATS.md describes them: cases, and what a reader apart from the repository's code says of them.
 
-    config_table.py [check|make]      compares crates/config_table/data/cases and stdout with them, or writes them (tests/lib/tables.py)
+    config_table.py [check|make]      compares crates/server_tables/data/config and what stdout there has of it with them, or writes them (tests/lib/tables.py)
 
 A case is a line: `read HEX NAME` asks for the configuration of these bytes, `size COUNT HEX NAME` for
 that of these bytes with blanks behind them up to so many bytes, and `find TENANT HEX` for the route
@@ -351,8 +351,8 @@ def answer(data):
 
 def files():
     lines, answers = zip(*cases())
-    return {"data/cases": tables.text(lines), "stdout": tables.text(answers)}
+    return tables.text(lines), tables.text(answers)
 
 
 if __name__ == "__main__":
-    sys.exit(tables.main("config_table", files, sys.argv[1:]))
+    sys.exit(tables.main("config", files, sys.argv[1:]))

@@ -3,7 +3,7 @@
 
 The rows below are written out by hand. The program reads the streams in pieces, and nothing here is taken from it.
 
-    http_table.py [check|make]      compares crates/http_table/stdin and stdout with them, or writes them (tests/lib/tables.py)
+    http_table.py [check|make]      compares crates/server_tables/data/http and what stdout there has of it with them, or writes them (tests/lib/tables.py)
 """
 
 import random
@@ -286,8 +286,8 @@ def all_lines():
 
 def files():
     lines, answers = zip(*all_lines())
-    return {"stdin": tables.text(lines), "stdout": tables.text(answers)}
+    return tables.text(lines), tables.text(answers)
 
 
 if __name__ == "__main__":
-    sys.exit(tables.main("http_table", files, sys.argv[1:]))
+    sys.exit(tables.main("http", files, sys.argv[1:]))

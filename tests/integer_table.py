@@ -1,7 +1,7 @@
 #!/usr/bin/env python3
 """The integer operators of WebAssembly Core 1.0, section 4.3.2, and the sign extensions of Core 2.0, at boundary operands.
 
-    integer_table.py [check|make]      compares crates/integer_table/stdout with the table, or writes it (tests/lib/tables.py)
+    integer_table.py [check|make]      compares what crates/wasm_tables/stdout has of it with the table, or writes it (tests/lib/tables.py)
 
 What the table has, `tests/lib/integers.py` computes from the standard.
 """
@@ -89,8 +89,8 @@ def table():
 def files():
     wrong = wrong_row()
     assert wrong is None, "the operator %x does not give what was computed by hand" % wrong
-    return {"stdout": tables.text(table())}
+    return None, tables.text(table())
 
 
 if __name__ == "__main__":
-    sys.exit(tables.main("integer_table", files, sys.argv[1:]))
+    sys.exit(tables.main("integer", files, sys.argv[1:]))

@@ -5,7 +5,7 @@ The bytes are spelt by hand after WebAssembly Core 1.0, section 5.5, and of Core
 refusals and the limits are those of docs/FORMATS.md. Nothing here is taken from what the program prints. In the
 rows of refusals a place is counted from the file's first byte, so the first section stands at 8.
 
-    module_table.py [check|make]      compares crates/module_table/stdin and stdout with the tables, or writes them (tests/lib/tables.py)
+    module_table.py [check|make]      compares crates/wasm_tables/data/module and what stdout there has of it with the tables, or writes them (tests/lib/tables.py)
 """
 
 import sys
@@ -591,8 +591,8 @@ def rows():
 
 def files():
     spelt, printed = zip(*rows())
-    return {"stdin": tables.text(line.replace(" ", "").lower() for line in spelt), "stdout": tables.text(printed)}
+    return tables.text(line.replace(" ", "").lower() for line in spelt), tables.text(printed)
 
 
 if __name__ == "__main__":
-    sys.exit(tables.main("module_table", files, sys.argv[1:]))
+    sys.exit(tables.main("module", files, sys.argv[1:]))

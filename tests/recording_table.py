@@ -1,7 +1,7 @@
 #!/usr/bin/env python3
 """Recordings: cases, and what a reader apart from the repository's code says of them (tests/lib/recordings.py).
 
-    recording_table.py [check|make]      compares crates/recording_table/data/cases and stdout with them, or writes them (tests/lib/tables.py)
+    recording_table.py [check|make]      compares crates/server_tables/data/recording and what stdout there has of it with them, or writes them (tests/lib/tables.py)
 """
 
 import random
@@ -142,8 +142,8 @@ def table_lines():
 
 
 def files():
-    return {"data/cases": tables.text(case_lines()), "stdout": tables.text(table_lines())}
+    return tables.text(case_lines()), tables.text(table_lines())
 
 
 if __name__ == "__main__":
-    sys.exit(tables.main("recording_table", files, sys.argv[1:]))
+    sys.exit(tables.main("recording", files, sys.argv[1:]))

@@ -1,7 +1,7 @@
 #!/usr/bin/env python3
 """Requests in turns: cases, and what an interpreter apart from the repository's code says of them.
 
-    turns_table.py [check|make]      compares crates/turns_table/data/cases and stdout with them, or writes them (tests/lib/tables.py)
+    turns_table.py [check|make]      compares crates/wasm_tables/data/turns and what stdout there has of it with them, or writes them (tests/lib/tables.py)
 
 A case is a line `turns MODULE BODY BUDGET QUANTUM`. Each program is run with each quantum, so that verdict and units are seen to be
 the same and the turns those of the prices (docs/DEFINITIONS.md). In ROWS the answer is written out by hand, and the interpreter has to
@@ -131,8 +131,8 @@ def cases():
 
 def files():
     lines, answers = zip(*cases())
-    return {"data/cases": tables.text(lines), "stdout": tables.text(answers)}
+    return tables.text(lines), tables.text(answers)
 
 
 if __name__ == "__main__":
-    sys.exit(tables.main("turns_table", files, sys.argv[1:]))
+    sys.exit(tables.main("turns", files, sys.argv[1:]))

@@ -1,7 +1,7 @@
 #!/usr/bin/env python3
 """The cases of the validator, and what it has to answer, made apart from the repository's code.
 
-    validity_table.py [check|make]      compares crates/validity_table/stdin and stdout with them, or writes them (tests/lib/tables.py)
+    validity_table.py [check|make]      compares crates/wasm_tables/data/validity and what stdout there has of it with them, or writes them (tests/lib/tables.py)
 
 A case is a module, as a line of hexadecimal. Its answer is `valid` with the operand height and the block depth of each
 body, or `broken` with the number, the body (or `-`) and the item of the first violation. The answers of the tables are
@@ -420,8 +420,8 @@ def cases():
 
 def files():
     modules, answers = zip(*cases())
-    return {"stdin": tables.text(data.hex() for data in modules), "stdout": tables.text(answers)}
+    return tables.text(data.hex() for data in modules), tables.text(answers)
 
 
 if __name__ == "__main__":
-    sys.exit(tables.main("validity_table", files, sys.argv[1:]))
+    sys.exit(tables.main("validity", files, sys.argv[1:]))

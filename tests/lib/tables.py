@@ -1,10 +1,11 @@
-"""The files of a program that prints a table, and one command line for the nine checks of such files.
+"""The files of the programs that print tables, and one command line for the checks of such files.
 
-`crates/NAME_table` is a program: `rt ci` runs it on a file of cases, and it must print what another file has. Neither file comes of the
-program: `tests/NAME_table.py` makes both apart from the repository's code.
+A program of `PROGRAMS` prints several tables, each below its headline: `rt ci` runs it on a file of cases for each, `data/TABLE`, and it
+must print what `stdout` has. The program `command_table` prints one table: its cases are `stdin`, and there is no headline. Neither
+cases nor what must be printed come of a program: `tests/NAME_table.py` makes both for the table of its name apart from the repository's code.
 
-    NAME_table.py [check [FOLDER]]     compares the files in FOLDER with what is made here; it is crates/NAME_table where none is named
-    NAME_table.py make [FOLDER]        writes them there
+    NAME_table.py [check [FOLDER]]     compares what stands in FOLDER with what is made here; it is the program's own where none is named
+    NAME_table.py make [FOLDER]        writes it there, and leaves the other tables as they are
 """
 
 import os
@@ -12,17 +13,66 @@ import os
 TOP = os.path.join(os.path.dirname(os.path.abspath(__file__)), "..", "..")
 SHOWN = 300  # letters of a line that differs
 
+# The tables of each program, in the order in which it prints them.
+PROGRAMS = {
+    "wasm_tables": ["integer", "body", "module", "validity", "turns", "batch"],
+    "server_tables": ["http", "recording", "config", "links"],
+}
+
 
 def text(lines):
     """The text of a file with these lines."""
     return "".join(line + "\n" for line in lines)
 
 
-def written(folder, files):
-    for name, wanted in files.items():
-        with open(os.path.join(folder, name), "w", encoding="utf-8") as file:
+def program_of(table):
+    """The program that prints the table, and where its cases stand in the program's folder."""
+    for program, tables in PROGRAMS.items():
+        if table in tables:
+            return program, os.path.join("data", table)
+    return table + "_table", "stdin"
+
+
+def headline(table):
+    return "== %s ==\n" % table
+
+
+def read(path):
+    """The text of a file, or None where there is none."""
+    if not os.path.exists(path):
+        return None
+    with open(path, encoding="utf-8", newline="") as file:
+        return file.read()
+
+
+def parts_of(program, printed):
+    """What stands below the headline of each of the program's tables; all under None where it has no headlines."""
+    headlines = {headline(table): table for table in PROGRAMS.get(program, [])}
+    parts, lines = {}, []
+    if not headlines:
+        return {None: printed}
+    for line in printed.splitlines(keepends=True):
+        if line in headlines:
+            lines = parts.setdefault(headlines[line], [])
+        else:
+            lines.append(line)
+    return {table: "".join(lines) for table, lines in parts.items()}
+
+
+def written(folder, table, cases, printed):
+    program, place = program_of(table)
+    output = os.path.join(folder, "stdout")
+    files = {os.path.join(folder, place): cases} if cases is not None else {}
+    if program in PROGRAMS:
+        parts = {**parts_of(program, read(output) or ""), table: printed}
+        files[output] = "".join(headline(name) + parts[name] for name in PROGRAMS[program] if name in parts)
+    else:
+        files[output] = printed
+    for path, wanted in files.items():
+        os.makedirs(os.path.dirname(path), exist_ok=True)
+        with open(path, "w", encoding="utf-8", newline="") as file:
             file.write(wanted)
-        print("%s: written" % os.path.normpath(os.path.join(folder, name)))
+        print("%s: written" % os.path.normpath(path))
     return 0
 
 
@@ -36,25 +86,34 @@ def shown(line):
     return "no line" if line is None else repr(line[:SHOWN])
 
 
-def agrees(path, wanted):
-    with open(path, encoding="utf-8", newline="") as file:
-        found = file.read()
-    if found != wanted:
+def agrees(what, wanted, found):
+    if found is None:
+        print("%s: not there" % what)
+    elif found != wanted:
         number, due, other = first_difference(wanted, found)
-        print("%s, line %d:\n  wanted %s\n  has    %s" % (os.path.normpath(path), number, shown(due), shown(other)))
+        print("%s, line %d:\n  wanted %s\n  has    %s" % (what, number, shown(due), shown(other)))
     return found == wanted
 
 
-def checked(folder, files):
-    same = [agrees(os.path.join(folder, name), wanted) for name, wanted in files.items()]
-    print("%d lines" % files["stdout"].count("\n") if all(same) else "%d of %d files differ" % (same.count(False), len(same)))
+def checked(folder, table, cases, printed):
+    program, place = program_of(table)
+    output = os.path.join(folder, "stdout")
+    part = table if program in PROGRAMS else None
+    found = parts_of(program, read(output) or "").get(part)
+    below = " below the headline of %s" % table if part else ""
+    same = [agrees(os.path.normpath(output) + below, printed, found)]
+    if cases is not None:
+        path = os.path.join(folder, place)
+        same.append(agrees(os.path.normpath(path), cases, read(path)))
+    print("%d lines" % printed.count("\n") if all(same) else "%d of %d texts differ" % (same.count(False), len(same)))
     return not all(same)
 
 
-def main(crate, files, words):
-    """Does what the words ask for with the files that `files` makes, a text for each name; answers the exit status."""
+def main(table, made, words):
+    """Does what the words ask for with what `made` answers, the text of the cases (or None) and what must be printed of them; answers the
+    exit status."""
     if len(words) > 2 or words[:1] not in ([], ["check"], ["make"]):
-        print("usage: tests/%s.py [check|make [FOLDER]]" % crate)
+        print("usage: tests/%s_table.py [check|make [FOLDER]]" % table)
         return 0 if words == ["--help"] else 2
-    folder = words[1] if len(words) == 2 else os.path.join(TOP, "crates", crate)
-    return (written if words[:1] == ["make"] else checked)(folder, files())
+    folder = words[1] if len(words) == 2 else os.path.join(TOP, "crates", program_of(table)[0])
+    return (written if words[:1] == ["make"] else checked)(folder, table, *made())

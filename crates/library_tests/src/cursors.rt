@@ -1,4 +1,4 @@
-//! Names by a table, and the places of their refusals. The program `body_table` reads the spellings of numbers.
+//! Names by a table, and the places of their refusals. The table `body` of `wasm_tables` has the spellings of numbers.
 
 use std::process::Abort;
 use wasm_ops::{Cursor, Fault, Refusal};

@@ -1,6 +1,6 @@
 //! `wasm_ops` and `wasm_code`: texts, sizes, and that each call can succeed.
 //!
-//! The program `integer_table` prints every integer operator at boundary operands, and `body_table` reads each operator that a body may have.
+//! The table `integer` of `wasm_tables` has every integer operator at boundary operands, and `body` each operator that a body may have.
 use std::test::Fail;
 use wasm_code::CodeFault;
 use wasm_ops::{

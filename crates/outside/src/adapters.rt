@@ -18,9 +18,6 @@ use std::marker::Model;
 use std::rt::Files;
 use std::{fs, io};
 
-#[cfg(test)]
-mod tests;
-
 /// How many bytes one call of `read` asks a file for at most.
 const PIECE: usize = 8192;
 

@@ -9,9 +9,6 @@ use crate::sinks::Sink;
 use std::alloc::{AllocError, Global};
 use std::marker::Model;
 
-#[cfg(test)]
-mod tests;
-
 /// A call of `write` that fails, by its number counted from 0, and how many bytes it lets pass
 /// before it fails.
 #[derive(Clone, Copy, Debug, PartialEq, Eq)]

@@ -10,9 +10,6 @@ use crate::texts::Text;
 use std::alloc::Global;
 use std::marker::Model;
 
-#[cfg(test)]
-mod tests;
-
 /// A library in memory, which tells what it holds and fails only at the calls that it was told.
 pub struct Shelf {
     files: Vec<(Text, Vec<u8>)>,

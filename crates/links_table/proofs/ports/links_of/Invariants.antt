@@ -1,6 +1,0 @@
-use Rattle.std.proofs.Common.{◌≡◌, All, false}
-use Rattle.links_table.proofs.ports.links_of.Given as goal
-
--- none of the links so far is used
-abbrev pub invariant-loop : goal.invariant-loop
-invariant-loop l = All (λ link. link.used ≡ false) l.links.items

@@ -4,12 +4,18 @@
 //! It stands on `posted_jobs` for what stands on the board, on `place_lists` and `tenant_meters`, on `job_board`, `memory_pool` and `run_queues`, on `sandbox_states` for turns, and on `worker_desks` for settings and duties. Calls may wait for other threads; only the makers take memory.
 #![tactic(auto)]
 
+mod asking;
 mod berths;
 mod desks;
+mod finds;
 mod handed;
+mod own_queues;
+mod searches;
 mod shops;
 mod visits;
+mod working;
 
 pub use desks::ShopDesk;
 pub use shops::Shop;
 pub use visits::Visit;
+pub use working::work_until_dismissed;

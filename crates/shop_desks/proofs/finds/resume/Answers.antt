@@ -1,4 +1,4 @@
-use Rattle.std.proofs.Common.{◌≡◌, subst, ◌∙◌}
+use Rattle.std.proofs.Common.{subst, ◌∙◌}
 use Rattle.run_queues.specs.Serving.{Takes}
 use Rattle.run_queues.specs.declared.policies.Policy.{Policy}
 use Rattle.worker_desks.proofs.Entries.{all-left}

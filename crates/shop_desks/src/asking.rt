@@ -114,16 +114,14 @@ impl Shop {
         ensures verdict { IfOk result (λ found. IfSome found (λ given. due.verdict (arc_value request.now) ≡ Some (told given))) }
     {
         let job = PostedJob::new(alloc, Arc::try_clone(request)?, place, deadline)?;
-        match self.board.fill(pass, place, job) {
-            Fill::Filled => {
-                // The workers look at each place too, so one that the inbox has no memory for is found.
-                let _ = self.inbox.push(rt, inbox_pass, place);
-                self.posted.notify_all();
-                let event = &self.answered[place as usize];
-                Ok(awaited(rt, &self.board, event, pass, place, request))
-            }
-            Fill::Other(_, _) => Ok(None),
+        if let Fill::Other(_, _) = self.board.fill(pass, place, job) {
+            return Ok(None);
         }
+        // The workers look at each place too, so one that the inbox has no memory for is found.
+        let _pushed = self.inbox.push(rt, inbox_pass, place);
+        self.posted.notify_all();
+        let event = &self.answered[place as usize];
+        Ok(awaited(rt, &self.board, event, pass, place, &**request))
     }
 }
 

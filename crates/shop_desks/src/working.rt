@@ -1,5 +1,5 @@
 //! A worker's life in a shop.
-ghost use Rattle.std.specs.Prelude.{◌≡◌, None};
+ghost use Rattle.std.specs.Prelude.{◌≡◌, true, None};
 
 use crate::desks::ShopDesk;
 use crate::shops::Shop;
@@ -11,7 +11,7 @@ const GRANT: u64 = 4096;
 
 /// Runs the requests of a shop with this desk, which is the shop's, until the workers are dismissed. Where there is nothing to run it sleeps until a request is put at a place.
 ///
-/// No duty is out, before and after. Requests that are not over at the end stay at their places.
+/// No duty is out, before and after, and the desk's last `next` gave none. Requests that are not over at the end stay at their places.
 pub fn work_until_dismissed<R: Wait + Copy, G: Gate>(
     shop: &Shop,
     worker: u32,
@@ -22,23 +22,19 @@ pub fn work_until_dismissed<R: Wait + Copy, G: Gate>(
     requires free { desk.old.out ≡ None }
     ensures shop { desk.new.shop ≡ desk.old.shop }
     ensures free { desk.new.out ≡ None }
+    ensures ended { desk.new.ended ≡ true }
 {
     let rt = desk.runtime();
     for _ in rt.forever() {
+        let worked = works(shop, worker, desk, gate);
         if shop.is_dismissed() {
             return;
         }
-        if works(shop, worker, desk, gate) {
-            continue;
-        }
-        // The wait is told of before the last try, so that what is posted behind that ends it.
-        let key = shop.posted.prepare_wait();
-        if shop.is_dismissed() || works(shop, worker, desk, gate) {
-            drop(key);
-        } else {
-            key.wait(&rt);
+        if !worked {
+            rests(&rt, shop, worker, desk, gate);
         }
     }
+    unreachable!()
 }
 
 // Works on duties of one grant. Whether there were any.
@@ -47,7 +43,29 @@ fn works<R: Wait + Copy, G: Gate>(shop: &Shop, worker: u32, desk: &mut ShopDesk<
     requires free { desk.old.out ≡ None }
     ensures shop { desk.new.shop ≡ desk.old.shop }
     ensures free { desk.new.out ≡ None }
+    ensures ended { desk.new.ended ≡ true }
 {
     desk.grant(GRANT);
     work(worker, desk, shop.quantum, gate) > 0
+}
+
+// Sleeps until a request is put at a place. The wait is told of before the last try, so that what is put behind that ends it.
+fn rests<R: Wait + Copy, G: Gate>(
+    rt: &R,
+    shop: &Shop,
+    worker: u32,
+    desk: &mut ShopDesk<R>,
+    gate: &G,
+)
+    requires shop { desk.old.shop ≡ shop.now }
+    requires free { desk.old.out ≡ None }
+    ensures shop { desk.new.shop ≡ desk.old.shop }
+    ensures free { desk.new.out ≡ None }
+{
+    let key = shop.posted.prepare_wait();
+    if works(shop, worker, desk, gate) || shop.is_dismissed() {
+        drop(key);
+    } else {
+        key.wait(rt);
+    }
 }

@@ -4,6 +4,7 @@
 //! It stands on `posted_jobs` for what stands on the board, on `place_lists` and `tenant_meters`, on `job_board`, `memory_pool` and `run_queues`, on `sandbox_states` for turns, and on `worker_desks` for settings and duties. Calls may wait for other threads; only the makers take memory.
 #![tactic(auto)]
 
+mod asking;
 mod berths;
 mod desks;
 mod handed;

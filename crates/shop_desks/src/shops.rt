@@ -22,8 +22,8 @@ pub struct Shop {
     pub(crate) board: Board<PostedJob>,
     pub(crate) pool: Pool,
     pub(crate) inbox: Inbox,
-    vacancies: Vacancies,
-    meters: Meters,
+    pub(crate) vacancies: Vacancies,
+    pub(crate) meters: Meters,
     pub(crate) quantum: u64,
     pub(crate) policy: Policy,
 }

@@ -1,5 +1,5 @@
 -- The reply to one request that has a route, and the call of the meter beside it.
-use Rattle.std.proofs.Common.{◌≡◌, ℕ, Bool, List, [], ◌∷◌, Some, Result, Ok, Err, IfOk, inl, refl, sym, ap, ◌∙◌, subst, append-nil}
+use Rattle.std.proofs.Common.{◌≡◌, ℕ, Bool, List, [], ◌∷◌, ◌++◌, Option, Some, Result, Ok, Err, IfOk, inl, refl, sym, ap, ◌∙◌, subst, append-nil}
 use Rattle.admission.specs.declared.meters.Admission.{Admission}
 use Rattle.http_front.specs.Reply.{reply_of}
 use Rattle.http_front.specs.Reported.{Reported}

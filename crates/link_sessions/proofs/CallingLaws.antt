@@ -1,5 +1,5 @@
 -- Calls of one tenant's meter, one after another.
-use Rattle.std.proofs.Common.{◌≡◌, ◌⊎◌, inl, inr, ℕ, List, [], ◌∷◌, ◌++◌, slice_get, sym, ap, ◌∙◌, append_assoc, append-nil, subst}
+use Rattle.std.proofs.Common.{◌≡◌, ◌≢◌, ◌⊎◌, inl, inr, ℕ, List, [], ◌∷◌, ◌++◌, slice_get, refl, sym, ap, ◌∙◌, append_assoc, append-nil, subst}
 use Rattle.tenant_meters.specs.Histories.{GoesOn}
 use Rattle.tenant_meters.specs.Metered.{PassView}
 use Rattle.tenant_meters.specs.declared.callers.Call.{Call}

@@ -1,10 +1,12 @@
 -- What is done over a link, one thing after another.
-use Rattle.std.proofs.Common.{◌≡◌, ℕ, List, [], ◌∷◌, ◌++◌, Result, Ok, Err, OnErr, take, refl, ap, ◌∙◌, subst, Bool, true, false, not, ◌||◌, ◌==◌, ◌<◌, length, arith}
+use Rattle.std.proofs.Common.{◌≡◌, ℕ, List, [], ◌∷◌, ◌++◌, Result, Ok, Err, OnErr, take, refl, sym, ap, ◌∙◌, subst, append_assoc, Bool, true, false, not, ◌||◌, ◌==◌, ◌<◌, length, arith}
 use Rattle.std.proofs.lemmas.Bool.Decides.{nat_tests}
 use Rattle.http_items.specs.Items.{Heard}
 use Rattle.outside_links.specs.Link.{Fails, LinkState, SendsPart, Writes}
 use Rattle.tenant_meters.specs.Metered.{PassView}
+use Rattle.tenant_meters.specs.declared.callers.Call.{Call}
 use Rattle.tenant_meters.specs.declared.callers.Terms.{Terms}
+use Rattle.link_sessions.specs.Calling.{MakesCalls}
 use Rattle.link_sessions.specs.Going.{Asks, Does, Marks}
 use Rattle.link_sessions.specs.Services.{Service}
 use Rattle.link_sessions.specs.Serving.{Begins, Doing, Replies}

@@ -1,12 +1,14 @@
 -- A session from one read to the next.
-use Rattle.std.proofs.Common.{◌≡◌, ◌≢◌, ◌⊎◌, inl, inr, ◌≤◌, ℕ, Bool, true, false, ◌||◌, List, [], ◌∷◌, ◌++◌, take, refl, sym, ap, ◌∙◌, subst, append_assoc, append-nil, arith, ◌==◌, eqb-true}
+use Rattle.std.proofs.Common.{◌≡◌, ◌≢◌, ◌⊎◌, inl, inr, ◌≤◌, ◌+◌, ℕ, Bool, true, false, ◌||◌, List, [], ◌∷◌, ◌++◌, take, length, refl, sym, ap, ◌∙◌, subst, append_assoc, append-nil, arith, ◌==◌, ◌<◌, eqb-true}
 use Rattle.std.specs.List.{AllByRecursion}
-use Rattle.http_items.specs.Items.{Heard, items}
+use Rattle.http_items.specs.Items.{Heard, items, keeps}
 use Rattle.http_items.specs.Standings.{Goes, Reading, Standing, items_from}
 use Rattle.outside.specs.Faults.{Rose, one_more}
 use Rattle.outside_links.specs.Link.{Fails, LinkState, Reads}
 use Rattle.tenant_meters.specs.Metered.{PassView}
+use Rattle.tenant_meters.specs.declared.callers.Call.{Call}
 use Rattle.tenant_meters.specs.declared.callers.Terms.{Terms}
+use Rattle.link_sessions.specs.Calling.{MakesCalls, mine_in}
 use Rattle.link_sessions.specs.Going.{Does, Going, Serves, StopCause}
 use Rattle.link_sessions.specs.Services.{Service}
 use Rattle.link_sessions.specs.Serving.{Begins, Replies}

@@ -1,5 +1,5 @@
 -- One call of the tenant's meter, as the shop tells it, among all passes of a visit.
-use Rattle.std.proofs.Common.{◌≡◌, ◌≢◌, ℕ, zero, suc, ◌<◌, ◌≤◌, ◌^◌, All, List, [], ◌∷◌, ◌++◌, length, map, Some, slice_get, slice_set, unwrap_or, refl, sym, ap, ◌∙◌, subst, arith}
+use Rattle.std.proofs.Common.{◌≡◌, ◌≢◌, ℕ, zero, suc, ◌<◌, ◌≤◌, ◌^◌, All, List, [], ◌∷◌, ◌++◌, length, map, Option, None, Some, slice_get, slice_set, option_map, unwrap_or, refl, sym, ap, ◌∙◌, subst, arith}
 use Rattle.std.specs.List.{AllByRecursion}
 use Rattle.std.proofs.lemmas.List.{length-map}
 use Rattle.std.proofs.lemmas.Option.{slice_get-map}
@@ -13,7 +13,7 @@ use Rattle.tenant_meters.specs.Visiting.{IsVisitOf, terms_of}
 use Rattle.tenant_meters.specs.declared.callers.Call.{Call}
 use Rattle.tenant_meters.specs.declared.callers.Terms.{Terms}
 use Rattle.recorded_runner.proofs.RouteLaws.{mapped_at, member_is}
-use Rattle.link_sessions.specs.Calling.{AsksMeter, seen_in}
+use Rattle.link_sessions.specs.Calling.{AsksMeter, mine_in, seen_in}
 use Rattle.link_sessions.specs.Servers.{terms, terms_at, terms_in}
 
 some_at : {A : Type 0} (xs : List A) (k : ℕ) → k < length xs → (x : A) × (slice_get xs k ≡ Some x)

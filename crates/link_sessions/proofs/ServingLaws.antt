@@ -1,10 +1,10 @@
 -- What is served in parts is served whole.
-use Rattle.std.proofs.Common.{◌≡◌, ◌⊎◌, inl, inr, ℕ, Bool, List, [], ◌∷◌, ◌++◌, Option, None, Some, take, length, refl, sym, ap, ◌∙◌, append_assoc, append-nil, subst, ◌<◌, arith, length-append, codes, decimal}
+use Rattle.std.proofs.Common.{◌≡◌, ◌⊎◌, inl, inr, ℕ, Bool, true, false, List, [], ◌∷◌, ◌++◌, Option, None, Some, take, length, refl, sym, ap, ◌∙◌, append_assoc, append-nil, subst, ◌<◌, ◌+◌, arith, length-append, codes, decimal}
 use Rattle.admission.specs.declared.meters.Admission.{Admission}
 use Rattle.admission.specs.declared.meters.Admission.TheVariants.{Entered, Spent}
 use Rattle.http_front.specs.Reply.{allow_line, body_of, close_line, content_type_of, head_of, header_line, reply_of, sent, status_line, status_of}
 use Rattle.http_front.specs.Reported.{Reported}
-use Rattle.http_items.specs.Items.{Heard}
+use Rattle.http_items.specs.Items.{Heard, keeps}
 use Rattle.tenant_meters.specs.declared.callers.Call.{Call}
 use Rattle.link_sessions.specs.Services.{Service, answered_text, refused_text, route_of}
 use Rattle.link_sessions.specs.Serving.{Begins, BeginsBy, Doing, Part, Replies, RepliesBy, Whole}

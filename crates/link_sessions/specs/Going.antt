@@ -1,6 +1,6 @@
 -- What the parts of a session do: calls of the meter, and bytes over the link, one thing after another.
-use Rattle.std.specs.Prelude.{◌≡◌, ◌≢◌, ◌⊎◌, ◌≤◌, ◌<◌, ℕ, Bool, true, false, List, [], length}
-use Rattle.http_items.specs.Items.{Heard, items}
+use Rattle.std.specs.Prelude.{◌≡◌, ◌≢◌, ◌⊎◌, ◌≤◌, ◌<◌, ℕ, Bool, true, false, List, [], ◌∷◌, ◌++◌, length}
+use Rattle.http_items.specs.Items.{Heard, items, keeps}
 use Rattle.http_items.specs.Standings.{Goes, Reading, Standing}
 use Rattle.outside.specs.Faults.{Rose}
 use Rattle.outside_links.specs.Link.{LinkState}

@@ -1,5 +1,5 @@
 -- What one tenant is served, and the text of the reply to each item of a connection.
-use Rattle.std.specs.Prelude.{◌≡◌, ℕ, List, [], Option, None}
+use Rattle.std.specs.Prelude.{◌≡◌, ℕ, List, [], Option, Some, None}
 use Rattle.admission.specs.declared.meters.Admission.{Admission}
 use Rattle.admission.specs.declared.meters.Admission.TheVariants.{Entered, Spent}
 use Rattle.http_front.specs.Reply.{reply_of}

@@ -1,18 +1,19 @@
-use Rattle.std.proofs.Common.{◌≡◌, List, [], ◌∷◌, refl, sym, ap, ◌∙◌, subst, rules}
+use Rattle.std.proofs.Common.{◌≡◌, ℕ, List, [], ◌∷◌, refl, sym, ap, ◌∙◌, subst, rules}
 use Rattle.admission.specs.declared.meters.Admission.TheVariants.{Entered, Spent}
 use Rattle.http_front.specs.Reply.{reply_of}
 use Rattle.http_front.specs.Reported.{RefusedAs, reported}
 use Rattle.http_items.specs.Headings.{is_head}
 use Rattle.http_items.specs.Items.{Asked}
 use Rattle.http_items.specs.declared.refusals.Refusal.TheVariants.{AdmissionSpent}
+use Rattle.sandbox_states.specs.Views.{told}
 use Rattle.serve_config.specs.Routing.{all_routes}
 use Rattle.tenant_meters.specs.Metered.{PassView}
-use Rattle.workers.specs.Outcomes.{reported_of}
+use Rattle.workers.specs.Outcomes.{reported_of, reported_verdict}
 use Rattle.recorded_runner.proofs.RouteLaws.{member_is}
 use Rattle.link_sessions.specs.Calling.{AsksMeter}
 use Rattle.link_sessions.specs.Going.{Asks}
 use Rattle.link_sessions.specs.Servers.{service_of, terms_at}
-use Rattle.link_sessions.specs.Serving.{Replies}
+use Rattle.link_sessions.specs.Serving.{Begins, Replies}
 use Rattle.link_sessions.proofs.AskingLaws.{IfOk-then, asks_all, asks_begun, reply_same}
 use Rattle.link_sessions.proofs.DoingLaws.{OnErr-anyhow}
 use Rattle.link_sessions.proofs.answering.serve_routed.Goals as goal

@@ -1,3 +1,4 @@
+use Rattle.std.proofs.Common.{◌≡◌, length}
 use Rattle.shop_desks.specs.Shops.{IsVisitOf}
 use Rattle.link_sessions.specs.Going.{Going}
 use Rattle.link_sessions.specs.Servers.{KeepsParts, service_of, terms_at}

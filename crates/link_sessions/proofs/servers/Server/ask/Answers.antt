@@ -1,4 +1,4 @@
-use Rattle.std.proofs.Common.{◌≡◌, map, sym, ap, ◌∙◌, subst}
+use Rattle.std.proofs.Common.{◌≡◌, List, map, sym, ap, ◌∙◌, subst}
 use Rattle.serve_config.specs.Configuration.{Configuration}
 use Rattle.shop_desks.specs.Asking.{AsksOnce}
 use Rattle.shop_desks.specs.Shops.{ShopView}

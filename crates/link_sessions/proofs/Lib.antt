@@ -4,3 +4,4 @@ pub mod AskingLaws
 pub mod MeterLaws
 pub mod DoingLaws
 pub mod GoingLaws
+pub mod RouteLaws

@@ -6,6 +6,7 @@
 #![tactic(auto)]
 
 mod answering;
+mod routing;
 mod servers;
 mod sessions;
 

@@ -10,11 +10,12 @@ ghost use Rattle.recorded_runner.specs.Replies.{request_at, verdict_at};
 ghost use Rattle.sandbox_states.specs.Views.{told};
 ghost use Rattle.link_sessions.specs.Calling.{AsksMeter};
 
+use crate::routing::route_with;
 use admission::Admission;
 use posted_jobs::KeptRequest;
 use recorded_runner::settings_of;
 use sandbox_states::Verdict;
-use serve_config::{Config, Route, Routes, Tenant};
+use serve_config::{Config, Route, Tenant};
 use shop_desks::{Shop, Visit};
 use std::alloc::{AllocError, Global};
 use std::marker::Model;
@@ -28,7 +29,6 @@ use wasm_instance::Program;
 pub struct Server {
     pub(crate) shop: Arc<Shop>,
     pub(crate) config: Config,
-    pub(crate) routes: Routes,
     pub(crate) programs: Vec<Arc<Program>>,
 }
 
@@ -37,7 +37,6 @@ impl Drop for Server {
         let Server {
             shop: _,
             config: _,
-            routes: _,
             programs: _,
         } = self;
     }
@@ -48,7 +47,6 @@ impl Model for Server {
     ghost use Rattle.std.specs.Arc.{arc_value};
     ghost use Rattle.serve_config.specs.Loaded.{programs_in};
     ghost use Rattle.serve_config.specs.Routing.{all_routes};
-    ghost use Rattle.serve_config.specs.Tables.{AreTablesOf};
     ghost use Rattle.tenant_meters.specs.Visiting.{terms_of};
     ghost use Rattle.link_sessions.specs.Servers.{ServerView, terms_in};
 
@@ -56,7 +54,7 @@ impl Model for Server {
 
     ghost view = { λ s. record { shop = arc_value s.shop; config = s.config; programs = programs_in s.programs.items } };
 
-    ghost invariant = { λ s. AreTablesOf s.config s.routes × (length s.programs.items ≡ length (all_routes s.config.tenants)) × (map terms_of (arc_value s.shop).meters ≡ map terms_in s.config.tenants) };
+    ghost invariant = { λ s. (length s.programs.items ≡ length (all_routes s.config.tenants)) × (map terms_of (arc_value s.shop).meters ≡ map terms_in s.config.tenants) };
 }
 
 impl Server {
@@ -73,14 +71,12 @@ impl Server {
         ensures visit { IfOk result (λ made. IsFirstVisit made.0.shop made.1) }
         ensures own { IfOk result (λ made. IsVisitOf made.0.shop made.1) }
     {
-        let routes = Routes::new(alloc, &config)?;
         let terms = terms_of_tenants(alloc, config.tenants())?;
         let (shop, visit) = Shop::new(rt, alloc, settings_of(&config), terms.as_slice())?;
         let shop = Arc::new(alloc, shop)?;
         let server = Server {
             shop,
             config,
-            routes,
             programs,
         };
         Ok((server, visit))
@@ -105,7 +101,7 @@ impl Server {
         requires { tenant < length self.now.config.tenants }
         ensures { result ≡ route_number self.now.config.tenants tenant path.now }
     {
-        self.routes.find(tenant, path)
+        route_with(&self.config, tenant, path)
     }
 
     // The route with this number.

@@ -1,5 +1,5 @@
 -- Going over places, one more each.
-use Rattle.std.proofs.Common.{◌≡◌, ◌≢◌, ⊎_elim, inl, inr, ℕ, ◌+◌, ◌<◌, ◌≤◌, List, [], ◌∷◌, ◌++◌, length, Option, Some, None, IfSome, MatchOption, refl, sym, ap, subst, ◌∙◌, arith, append_assoc, length-append}
+use Rattle.std.proofs.Common.{◌≡◌, ◌≢◌, ⊎_elim, inl, inr, ℕ, ◌+◌, ◌<◌, ◌≤◌, List, [], ◌∷◌, ◌++◌, length, Option, Some, None, IfSome, IsSomeAnd, MatchOption, refl, sym, ap, subst, ◌∙◌, arith, append_assoc, length-append}
 use Rattle.std.proofs.lemmas.List.{append-nil}
 use Rattle.std.proofs.lemmas.List.Elements.{All-nil, All-push}
 use Rattle.job_board.specs.Boarding.{BoardView, IsPassOf, note, noting, holding, putting}
@@ -86,8 +86,8 @@ pub stopped_job : (berth : Option ℕ) (room place : ℕ) (old new : Pass) (seen
 stopped_job berth room place old new seen None stopped claims = refuses_stopped berth room place old new seen stopped claims
 stopped_job berth room place old new seen (Some job) stopped claims = record { seen = seen; gets = claims.0; fits = inl stopped }
 
-fitting : (berth : Option ℕ) (room pages : ℕ) → berth ≡ Some room → pages ≤ room → IfSome berth (λ (r : ℕ). pages ≤ r)
-fitting berth room pages is fits = subst (λ (b : Option ℕ). IfSome b (λ (r : ℕ). pages ≤ r)) (sym is) fits
+fitting : (berth : Option ℕ) (room pages : ℕ) → berth ≡ Some room → pages ≤ room → IsSomeAnd berth (λ (r : ℕ). pages ≤ r)
+fitting berth room pages is fits = subst (λ (b : Option ℕ). IsSomeAnd b (λ (r : ℕ). pages ≤ r)) (sym is) fits
 
 pub waiting_job : (berth : Option ℕ) (room place : ℕ) (old new : Pass) (seen : Word) (result : Option PostedView) → seen.state ≡ state.Waiting → berth ≡ Some room → Claims room place seen (noting old place seen) new result
     → MatchOption result (Refuses berth place old new) (λ (job : PostedView). IsClaimed berth place old new job)

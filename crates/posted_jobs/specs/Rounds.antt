@@ -1,5 +1,5 @@
 -- A worker's round over the places of a board: a job, or why each place was passed over.
-use Rattle.std.specs.Prelude.{◌≡◌, ◌≢◌, ◌⊎◌, ℕ, ◌+◌, ◌<◌, ◌≤◌, List, [], ◌∷◌, ◌++◌, length, Option, Some, None, IfSome}
+use Rattle.std.specs.Prelude.{◌≡◌, ◌≢◌, ◌⊎◌, ℕ, ◌+◌, ◌<◌, ◌≤◌, List, [], ◌∷◌, ◌++◌, length, Option, Some, None, IfSome, IsSomeAnd}
 use Rattle.std.specs.List.{All}
 use Rattle.job_board.specs.Boarding.{PassView, note, noting}
 use Rattle.job_board.specs.Claiming.{Gets}
@@ -67,11 +67,11 @@ pub record Refuses (berth : Option ℕ) (place : ℕ) (old new : Pass) : Type 0 
   pub passed : IsPassedOver berth look
   pub noted : new ≡ noting_all old (note place look.seen ∷ notes_at place look.why)
 
--- the job of a place was claimed: it was stopped, or it waits and fits the berth
+-- the job of a place was claimed: it was stopped, or it waits, and there is a berth that it fits
 pub record IsClaimed (berth : Option ℕ) (place : ℕ) (old new : Pass) (job : PostedView) : Type 0 where
   pub seen : Word
   pub gets : GetsJob (noting old place seen) new place seen job
-  pub fits : (seen.state ≡ state.Suspended) ⊎ ((seen.state ≡ state.Waiting) × IfSome berth (λ room. job.request.program.pages ≤ room))
+  pub fits : (seen.state ≡ state.Suspended) ⊎ ((seen.state ≡ state.Waiting) × IsSomeAnd berth (λ room. job.request.program.pages ≤ room))
 
 abbrev pub IsRound : (berth : Option ℕ) → (places : ℕ) → (old new : Pass) → Option PostedView → Type 0
 IsRound berth places old new None = PassesOver berth places old new

@@ -12,4 +12,4 @@ mod rounds;
 pub use collects::{Collected, collect};
 pub use jobs::PostedJob;
 pub use requests::KeptRequest;
-pub use rounds::next_job;
+pub use rounds::{claim_at, next_job};

@@ -52,8 +52,10 @@ fn job_at(
     }
 }
 
-// Claims the job that was seen. One that waits and wants more pages is put back.
-fn claim_at(
+/// Claims the job of a place whose word was seen so: one that was stopped, or one that waits. One that waits and whose program has more pages than `room` is put back. It takes no memory, and waits for nobody.
+///
+/// A job comes with its place, which the pass then holds. None comes only where the claim found another word, or the job was put back. Of a job that was stopped `room` asks nothing.
+pub fn claim_at(
     board: &Board<PostedJob>,
     pass: &mut BoardPass<PostedJob>,
     place: u32,

@@ -1,1 +1,5 @@
+pub mod Dropping
+pub mod Searching
 pub mod Returning
+pub mod Handing
+pub mod Parts

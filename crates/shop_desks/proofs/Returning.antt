@@ -57,6 +57,7 @@ desk-put-back d v same i s of entry here few pass place w put local pushed out g
       stocked = i.stocked;
       kept = i.kept;
       memory = i.memory;
+      counted = i.counted;
       out = subst (λ (o : Option HandedView). OutStands o pass) (sym gone) (ap (λ (p : boards.PassView PostedView). p.held) put);
     }
 
@@ -100,5 +101,6 @@ desk-delivered d i berth pass place w put pool_pass stock stock_room pool its is
       stocked = k.stocked;
       kept = k.few;
       memory = omega (arith, i.memory, same);
+      counted = i.counted;
       out = subst (λ (o : Option HandedView). OutStands o pass) (sym gone) (ap (λ (p : boards.PassView PostedView). p.held) put);
     }

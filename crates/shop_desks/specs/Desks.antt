@@ -1,5 +1,5 @@
 -- What contracts see of a shop's desk, what always holds of it, and what its calls do.
-use Rattle.std.specs.Prelude.{◌≡◌, ◌≢◌, ◌⊎◌, ℕ, ◌+◌, ◌<◌, ◌≤◌, Bool, false, List, [], ◌∷◌, ◌++◌, length, Option, Some, None, option_map}
+use Rattle.std.specs.Prelude.{◌≡◌, ◌≢◌, ◌⊎◌, ℕ, ◌+◌, ◌<◌, ◌≤◌, ◌^◌, Bool, false, List, [], ◌∷◌, ◌++◌, length, Option, Some, None, option_map}
 use Rattle.std.specs.List.{All}
 use Rattle.job_board.specs.Boarding as boards
 use Rattle.job_board.specs.Boarding.{hold, putting}
@@ -42,6 +42,9 @@ pub record ShopDeskView : Type 0 where
   pub given : ℕ
   pub ended : Bool
 
+abbrev pub handed : Request → Duty → HandedView
+handed request duty = record { request = request; duty = duty }
+
 abbrev pub begins_in : HandedView → SandboxView
 begins_in handed = begins_of handed.duty
 
@@ -66,7 +69,7 @@ abbrev pub many_out : Option HandedView → ℕ
 many_out None = 0
 many_out (Some handed) = 1
 
--- each pass is of the shop's object; the berths in stock have the pool's pages; there is room for the entry of the duty that is out
+-- each pass is of the shop's object; the berths in stock have the pool's pages; there is room for the entry of the duty that is out; and the duties of a grant are counted in 64 bits
 pub record IsDeskOf (d : ShopDeskView) : Type 0 where
   pub board_own : boards.IsPassOf d.shop.board d.board_pass
   pub pool_own : pools.IsPassOf d.shop.pool d.pool_pass
@@ -78,6 +81,7 @@ pub record IsDeskOf (d : ShopDeskView) : Type 0 where
   pub stocked : All (λ (berth : View). berth.pages ≡ d.shop.pool.pages) d.stock
   pub kept : length d.stock ≤ 256
   pub memory : 256 ≤ d.stock_room
+  pub counted : d.left + d.given < 2 ^ 64
   pub out : OutStands d.out d.board_pass
 
 -- a new desk has one part of the visit's passes, nothing of its own, and may give no duty yet

@@ -1,7 +1,7 @@
 -- What contracts see of a shop and of its visits.
-use Rattle.std.specs.Prelude.{◌≡◌, ℕ, List, [], map, None}
+use Rattle.std.specs.Prelude.{◌≡◌, ℕ, false, List, [], map, None}
 use Rattle.job_board.specs.Boarding as boards
-use Rattle.job_board.specs.Boarding.{BoardView}
+use Rattle.job_board.specs.Boarding.{BoardView, places_of}
 use Rattle.memory_pool.specs.Passing as pools
 use Rattle.memory_pool.specs.Passing.{PoolView, slots_of}
 use Rattle.place_lists.specs.Inboxes as inboxes
@@ -14,6 +14,10 @@ use Rattle.tenant_meters.specs.Metered as meters
 use Rattle.tenant_meters.specs.Metered.{MeterView}
 use Rattle.tenant_meters.specs.Visiting as visits
 use Rattle.worker_desks.specs.declared.settings.Settings.{Settings}
+
+-- a board of 256 places, which serve one request after another
+abbrev pub IsVacantBoard : BoardView PostedView → Type 0
+IsVacantBoard board = (board.terms.fixed ≡ false) × (places_of board ≡ 256)
 
 -- the shared objects, and how workers serve them
 pub record ShopView : Type 0 where

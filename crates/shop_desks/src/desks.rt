@@ -1,25 +1,29 @@
 //! The desk of a server's worker.
-ghost use Rattle.std.specs.Prelude.{◌≡◌, ◌≤◌, MatchResult, IfOk};
+ghost use Rattle.std.specs.Prelude.{◌≡◌, ◌≤◌, None, MatchResult, IfOk, IfSome, IfNone};
 ghost use Rattle.std.specs.Arc.{arc_value};
 ghost use Rattle.sandbox_states.specs.Stands.{IsOneTurn};
-ghost use Rattle.worker_desks.specs.Desks.{Regains};
+ghost use Rattle.worker_desks.specs.Desks.{Closes, Gives, Regains};
 ghost use Rattle.worker_desks.specs.Duties.{IsDelivered, OfDuty};
 ghost use Rattle.shop_desks.specs.Desks.{IsNewDesk, IsPutBack, IsTakenIn, granted, state_of};
+ghost use Rattle.shop_desks.specs.Nexts.{IsNext};
 ghost use Rattle.shop_desks.specs.Shops.{IsVisitOf, less_one};
 
-use crate::berths::give_back;
+use crate::berths::{duty_of, give_back};
 use crate::handed::HandedOut;
+use crate::own_queues::OwnQueue;
+use crate::searches::search;
 use crate::shops::Shop;
 use crate::visits::Visit;
 use job_board::BoardPass;
 use memory_pool::{Berth, PoolPass};
 use place_lists::InboxPass;
 use posted_jobs::PostedJob;
-use run_queues::{Entry, Local};
+use run_queues::Entry;
 use sandbox_states::{Answer, Sandbox};
 use std::alloc::{AllocError, Global};
 use std::marker::Model;
 use std::sync::{Arc, Wait};
+use worker_desks::{Desk, Duty};
 
 /// The desk of a server's worker, which serves a shop. It gives no more duties than were granted to it.
 ///
@@ -30,7 +34,7 @@ pub struct ShopDesk<R> {
     board_pass: BoardPass<PostedJob>,
     pool_pass: PoolPass,
     inbox_pass: InboxPass,
-    local: Local,
+    local: OwnQueue,
     stock: Vec<Berth>,
     out: Option<HandedOut>,
     left: u64,
@@ -83,7 +87,7 @@ impl<R: Wait + Copy> ShopDesk<R> {
         ensures from { MatchResult result (λ desk. from.new ≡ less_one from.old) (λ _. from.new ≡ from.old) }
         ensures desk { IfOk result (λ desk. IsNewDesk (arc_value shop) from.old desk) }
     {
-        let local = Local::new(alloc, shop.policy, 256)?;
+        let local = OwnQueue::new(alloc, shop.policy)?;
         let stock = Vec::with_capacity(alloc, 256)?;
         let board_pass = shop.board.split(&mut from.board_pass);
         let pool_pass = shop.pool.split(&mut from.pool_pass);
@@ -103,6 +107,11 @@ impl<R: Wait + Copy> ShopDesk<R> {
         })
     }
 
+    // The runtime with which it waits.
+    pub(crate) fn runtime(&self) -> R {
+        self.rt
+    }
+
     /// Sets how many duties it may still give, and counts those that it gives anew.
     pub fn grant(&mut self, duties: u64)
         ensures { self.new ≡ granted self.old duties }
@@ -111,12 +120,61 @@ impl<R: Wait + Copy> ShopDesk<R> {
         self.given = 0;
         self.ended = false;
     }
+}
+
+impl<R: Wait + Copy> Desk for ShopDesk<R> {
+    type Served = Shop;
+
+    ghost state = { state_of };
+
+    ghost serves = { λ d. d.shop };
+
+    /// The next duty: a request that begins, on a berth of the stock or the pool, at a place that the inbox gives; else the next of the desk's own queue, in the order of its policy, that is still where it was; else any at its place that was stopped, or that waits where there is a berth. Where the own queue is full it comes first.
+    ///
+    /// An entry whose claim found another word is dropped; a job that waits and wants more pages than the berth has is put back. There is none only where no more duties may be given; or the own queue is empty, and each place was refused in this call: its look found a job that neither waits nor was stopped, or one that waits while no berth was in stock and the pool gave none; or the claim of the word seen found another one; or the job that was claimed was put back.
+    fn next(&mut self) -> Option<Duty>
+        requires { (state_of self.old).out ≡ None }
+        ensures next { IsNext self.old self.new result }
+        ensures some { IfSome result (λ duty. Gives (state_of self.old) (state_of self.new) duty) }
+        ensures none { IfNone result (Closes (state_of self.old) (state_of self.new)) }
+        ensures serves { self.new.shop ≡ self.old.shop }
+    {
+        if self.left == 0 {
+            self.ended = true;
+            return None;
+        }
+        let found = search(
+            &self.rt,
+            &self.shop,
+            &mut self.board_pass,
+            &mut self.pool_pass,
+            &mut self.inbox_pass,
+            &mut self.local,
+            &mut self.stock,
+        );
+        match found {
+            Some(job) => {
+                let (request, task) = job.into_parts();
+                let duty = duty_of(task, &mut self.stock);
+                self.out = Some(HandedOut::of(request, &duty));
+                self.left -= 1;
+                self.given += 1;
+                self.ended = false;
+                Some(duty)
+            }
+            None => {
+                self.ended = true;
+                None
+            }
+        }
+    }
 
     /// Puts a request that was stopped back at its place, and notes it in the desk's own queue.
-    pub fn put_back(&mut self, sandbox: Sandbox)
+    fn put_back(&mut self, sandbox: Sandbox)
         requires { OfDuty (state_of self.old).out (λ old. IsOneTurn (state_of self.old).quantum old sandbox) }
         ensures put { IsPutBack self.old self.new sandbox }
         ensures back { Regains (state_of self.old) (state_of self.new) }
+        ensures serves { self.new.shop ≡ self.old.shop }
     {
         let entry = Entry {
             place: sandbox.place(),
@@ -130,16 +188,20 @@ impl<R: Wait + Copy> ShopDesk<R> {
                     .board
                     .put_suspended(&mut self.board_pass, entry.place, job);
                 self.local.push(entry);
+                if self.local.has_others() {
+                    self.shop.posted.notify_one();
+                }
             }
             None => unreachable!(),
         }
     }
 
     /// Puts an answer at its place, and gives the berth to the pool. Where the pool answers that it has no empty slot the berth stays in stock, if that has not 256; one more, and one that has other pages than the pool's, is dropped.
-    pub fn deliver(&mut self, answer: Answer, berth: Berth)
+    fn deliver(&mut self, answer: Answer, berth: Berth)
         requires { OfDuty (state_of self.old).out (λ old. IsDelivered (state_of self.old).quantum old answer berth) }
         ensures taken { IsTakenIn self.old self.new answer berth }
         ensures back { Regains (state_of self.old) (state_of self.new) }
+        ensures serves { self.new.shop ≡ self.old.shop }
     {
         let place = answer.place();
         let _turns = answer.turns();
@@ -149,6 +211,7 @@ impl<R: Wait + Copy> ShopDesk<R> {
                 self.shop
                     .board
                     .put_answered(&mut self.board_pass, place, job);
+                self.shop.tell_answered(place);
                 give_back(&self.shop.pool, &mut self.pool_pass, &mut self.stock, berth);
             }
             None => unreachable!(),

@@ -1,10 +1,11 @@
 //! The duty that is out, with its request.
 ghost use Rattle.std.specs.Prelude.{◌≡◌};
+ghost use Rattle.std.specs.Arc.{arc_value};
 ghost use Rattle.posted_jobs.specs.Posting.{posted};
-ghost use Rattle.sandbox_states.specs.Stands.{IsOneTurn};
-ghost use Rattle.worker_desks.specs.Duties.{IsDelivered};
+ghost use Rattle.sandbox_states.specs.Stands.{IsOneTurn, StandsFor};
+ghost use Rattle.worker_desks.specs.Duties.{begins_of, IsDelivered};
 ghost use Rattle.worker_desks.specs.declared.tasks.Task.TheVariants as task;
-ghost use Rattle.shop_desks.specs.Desks.{begins_in};
+ghost use Rattle.shop_desks.specs.Desks.{begins_in, handed};
 
 use memory_pool::Berth;
 use posted_jobs::{KeptRequest, PostedJob};
@@ -44,6 +45,17 @@ impl Model for HandedOut {
 }
 
 impl HandedOut {
+    // Remembers the duty that is handed out for a request.
+    pub(crate) fn of(request: Arc<KeptRequest>, duty: &Duty) -> HandedOut
+        requires { StandsFor (arc_value request) (begins_of duty.now) }
+        ensures { result ≡ handed (arc_value request) duty.now }
+    {
+        HandedOut {
+            request,
+            duty: Snapshot::of(duty),
+        }
+    }
+
     // The job of the duty after one turn that stopped.
     pub(crate) fn stopped(self, quantum: u64, sandbox: Sandbox) -> PostedJob
         requires { IsOneTurn quantum (begins_in self) sandbox }

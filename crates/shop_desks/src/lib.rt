@@ -7,10 +7,15 @@
 mod asking;
 mod berths;
 mod desks;
+mod finds;
 mod handed;
+mod own_queues;
+mod searches;
 mod shops;
 mod visits;
+mod working;
 
 pub use desks::ShopDesk;
 pub use shops::Shop;
 pub use visits::Visit;
+pub use working::work_until_dismissed;

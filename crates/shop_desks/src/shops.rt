@@ -1,9 +1,11 @@
 //! What all threads of a server share.
-ghost use Rattle.std.specs.Prelude.{◌≡◌, ◌*◌, ◌≤◌, ◌^◌, All, map, MatchResult, IfOk};
+ghost use Rattle.std.specs.Prelude.{◌≡◌, ◌*◌, ◌≤◌, ◌^◌, All, length, map, MatchResult, IfOk};
+ghost use Rattle.place_lists.specs.Places.{IsPlace};
 ghost use Rattle.tenant_meters.specs.Visiting.{terms_of};
 ghost use Rattle.shop_desks.specs.Shops.{IsSetBy, IsVisitOf, IsFirstVisit, IsSecondVisit, less_one};
 
 use crate::visits::Visit;
+use crossbeam_utils::sync::EventCount;
 use job_board::{Board, BoardPass};
 use memory_pool::{Pool, PoolPass};
 use place_lists::{Inbox, Vacancies};
@@ -12,6 +14,7 @@ use run_queues::Policy;
 use std::alloc::{AllocError, Global};
 use std::marker::Model;
 use std::sync::Wait;
+use std::sync::atomic::{AtomicBool, Ordering};
 use tenant_meters::{Meters, Terms};
 use worker_desks::Settings;
 
@@ -26,6 +29,12 @@ pub struct Shop {
     pub(crate) meters: Meters,
     pub(crate) quantum: u64,
     pub(crate) policy: Policy,
+    // Told when a request is put at a place, or another one is left for others to go on with.
+    pub(crate) posted: EventCount,
+    // Told when the request at a place is over, one for each place.
+    pub(crate) answered: Vec<EventCount>,
+    pub(crate) closed: AtomicBool,
+    pub(crate) dismissed: AtomicBool,
 }
 
 impl Drop for Shop {
@@ -38,33 +47,36 @@ impl Drop for Shop {
             meters: _,
             quantum: _,
             policy: _,
+            posted: _,
+            answered: _,
+            closed: _,
+            dismissed: _,
         } = self;
     }
 }
 
 impl Model for Shop {
-    ghost use Rattle.std.specs.Prelude.{◌≡◌, false};
-    ghost use Rattle.job_board.specs.Boarding.{places_of};
-    ghost use Rattle.shop_desks.specs.Shops.{ShopView};
+    ghost use Rattle.std.specs.Prelude.{◌≡◌, ◌≤◌, length};
+    ghost use Rattle.shop_desks.specs.Shops.{ShopView, IsVacantBoard};
 
     ghost Value = { ShopView };
 
     ghost view = { λ shop. record { board = shop.board; pool = shop.pool; inbox = shop.inbox; vacancies = shop.vacancies; meters = shop.meters; quantum = shop.quantum; policy = shop.policy } };
 
-    ghost invariant = { λ shop. (shop.board.terms.fixed ≡ false) × (places_of shop.board ≡ 256) };
+    ghost invariant = { λ shop. IsVacantBoard shop.board × (1 ≤ shop.quantum) × (length shop.answered.items ≡ 256) };
 }
 
 impl Shop {
     /// A shop of which all places are vacant, all berths are in the pool, and all meters, one for each of the terms, are empty; and its first visit, which has done nothing. Of the settings the number of workers is not used.
     ///
-    /// The settings have at least one berth and one page, and at most 16,384 pages in all berths; no meter's capacity is above 2^40 units.
+    /// The settings have at least one berth and one page, a quantum of at least 1, and at most 16,384 pages in all berths; no meter's capacity is above 2^40 units.
     pub fn new<R: Wait>(
         rt: &R,
         alloc: Global,
         settings: Settings,
         terms: &[Terms],
     ) -> Result<(Shop, Visit), AllocError>
-        requires some { (1 ≤ settings.berths) × (1 ≤ settings.pages) }
+        requires some { (1 ≤ settings.berths) × (1 ≤ settings.pages) × (1 ≤ settings.quantum) }
         requires most { settings.berths * settings.pages ≤ 16384 }
         requires few { All (λ (t : _). t.capacity ≤ 2 ^ 40) terms.now }
         ensures settings { IfOk result (λ made. IsSetBy settings made.0) }
@@ -72,6 +84,7 @@ impl Shop {
         ensures visit { IfOk result (λ made. IsFirstVisit made.0 made.1) }
         ensures own { IfOk result (λ made. IsVisitOf made.0 made.1) }
     {
+        let answered = events(alloc)?;
         let (board, board_pass) = Board::vacant(alloc, 256)?;
         let (pool, pool_pass) = Pool::new(alloc, settings.berths, settings.pages)?;
         let (inbox, inbox_pass) = Inbox::new(alloc)?;
@@ -85,6 +98,10 @@ impl Shop {
             meters,
             quantum: settings.quantum,
             policy: settings.policy,
+            posted: EventCount::new(),
+            answered,
+            closed: AtomicBool::new(false),
+            dismissed: AtomicBool::new(false),
         };
         let visit = Visit {
             board_pass,
@@ -115,4 +132,46 @@ impl Shop {
             meter_visit,
         })
     }
+
+    /// Tells all clerks that they are to accept no more connections. It wakes nobody.
+    pub fn close(&self) {
+        self.closed.store(true, Ordering::SeqCst);
+    }
+
+    /// Whether the shop was closed.
+    pub fn is_closed(&self) -> bool {
+        self.closed.load(Ordering::SeqCst)
+    }
+
+    /// Tells all workers that nothing more will be put at a place, and wakes them, so that they end. It is for the time when all sessions have ended.
+    pub fn dismiss(&self) {
+        self.dismissed.store(true, Ordering::SeqCst);
+        self.posted.notify_all();
+    }
+
+    /// Whether the workers were dismissed.
+    pub fn is_dismissed(&self) -> bool {
+        self.dismissed.load(Ordering::SeqCst)
+    }
+}
+
+impl Shop {
+    // Wakes who waits for the answer at a place.
+    pub(crate) fn tell_answered(&self, place: u32)
+        requires { IsPlace place }
+    {
+        self.answered[place as usize].notify_all();
+    }
+}
+
+// An event for each place.
+fn events(alloc: Global) -> Result<Vec<EventCount>, AllocError>
+    ensures { IfOk result (λ all. length all.items ≡ 256) }
+{
+    let mut all = Vec::with_capacity(alloc, 256)?;
+    for place in 0..256 {
+        let _place: u32 = place;
+        all.push_reserved(EventCount::new());
+    }
+    Ok(all)
 }

@@ -1,6 +1,6 @@
 use Rattle.std.proofs.Common.{arith}
 use Rattle.shop_desks.proofs.Returning.{desk-put-back}
-use Rattle.shop_desks.proofs.desks.ShopDesk.put_back.Goals as goal
+use Rattle.shop_desks.proofs.desks.ShopDeskDesk.put_back.Goals as goal
 
 pub invariant_of-self : goal.invariant_of-self
 invariant_of-self g c =

@@ -2,4 +2,3 @@ pub mod Dropping
 pub mod Searching
 pub mod Returning
 pub mod Handing
-pub mod Parts

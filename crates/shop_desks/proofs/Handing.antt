@@ -1,5 +1,5 @@
 -- What is handed out, and what that leaves of a desk.
-use Rattle.std.proofs.Common.{◌≡◌, ◌≢◌, ◌⊎◌, ⊎_elim, ℕ, ◌+◌, ◌-◌, ◌<◌, ◌≤◌, Bool, true, false, List, [], ◌∷◌, ◌++◌, length, Option, Some, None, option_map, refl, sym, ap, subst, ◌∙◌, arith, length-append}
+use Rattle.std.proofs.Common.{◌≡◌, ◌≢◌, ◌⊎◌, ⊎_elim, inr, ℕ, ◌+◌, ◌<◌, ◌≤◌, Bool, true, false, List, [], ◌∷◌, ◌++◌, length, Option, Some, None, option_map, refl, sym, ap, subst, ◌∙◌, arith, length-append}
 use Rattle.std.proofs.lemmas.List.Elements.{All-pop}
 use Rattle.std.specs.List.{All}
 use Rattle.job_board.specs.Boarding as boards
@@ -27,7 +27,7 @@ use Rattle.worker_desks.specs.declared.tasks.Task.{Task}
 use Rattle.worker_desks.specs.declared.tasks.Task.TheVariants.{Waiting, Suspended, Answered}
 use Rattle.shop_desks.proofs.Searching.{Rests, Finds, search-keeps, search-reaches}
 use Rattle.shop_desks.specs.Desks.{HandedView, ShopDeskView, IsDeskOf, HoldsDuty, OutStands, begins_in, handed, many_out, state_of}
-use Rattle.shop_desks.specs.Nexts.{Standing, standing_of, HasLast, IsSearch, IsReady, IsDutyOf, behind}
+use Rattle.shop_desks.specs.Nexts.{Standing, standing_of, HasLast, IsSearch, IsReady, IsDutyOf, IsNext, behind}
 use Rattle.shop_desks.specs.Shops.{ShopView}
 
 out-none : (out : Option HandedView) → option_map begins_in out ≡ None → out ≡ None
@@ -137,58 +137,95 @@ handing pages pass pass' place seen request (Answered answer) stock stock' duty 
 -- What is left of a desk.
 
 -- a duty was given
-abbrev pub given_out : ShopDeskView → Standing → (stock : List View) → Request → Duty → ShopDeskView
-given_out d s stock request duty = record (behind d s) { stock = stock; out = Some (handed request duty); left = d.left - 1; given = d.given + 1; ended = false }
+abbrev pub given_out : ShopDeskView → Standing → (stock : List View) → (stock_room : ℕ) → (out : HandedView) → (left given : ℕ) → ShopDeskView
+given_out d s stock stock_room out left given = record (behind d s) { stock = stock; stock_room = stock_room; out = Some out; left = left; given = given; ended = false }
 
-abbrev pub rested : ShopDeskView → Standing → ShopDeskView
-rested d s = record (behind d s) { ended = true }
+abbrev pub rested : ShopDeskView → Standing → (stock_room : ℕ) → ShopDeskView
+rested d s stock_room = record (behind d s) { stock_room = stock_room; ended = true }
 
-pub desk-rested : (d : ShopDeskView) (s : Standing) (stock_room : ℕ) → IsDeskOf d → d.out ≡ None → IsSearch d.shop.pool (standing_of d) s None → stock_room ≡ d.stock_room → IsDeskOf (record (rested d s) { stock_room = stock_room })
-desk-rested d s stock_room i none is same =
-    let r = search-keeps d.shop (standing_of d) s (rests-of d i none) is in
-    record {
-      board_own = r.board_own;
-      pool_own = r.pool_own;
-      inbox_own = r.inbox_own;
-      policy = r.policy;
-      room = r.room;
-      entries = r.entries;
-      few = omega (arith, r.few, ap many_out none);
-      stocked = r.stocked;
-      kept = r.kept;
-      memory = omega (arith, i.memory, same);
-      counted = i.counted;
-      out = subst (λ (o : Option HandedView). OutStands o s.board_pass) (sym none) r.free;
-    }
+-- what a search gave none of
+module _ (d : ShopDeskView) (shop : ShopView) (same : shop ≡ d.shop) (i : IsDeskOf d) (none : d.out ≡ None) (s : Standing) where
+  abbrev pub SearchesSo : Option PostedView → Type 0
+  SearchesSo found = IsSearch shop.pool (standing_of d) s found
 
-pub found-by : (d : ShopDeskView) (s : Standing) (job : PostedView) → IsDeskOf d → d.out ≡ None → IsSearch d.shop.pool (standing_of d) s (Some job) → Finds d.shop s job
-found-by d s job i none is = search-reaches d.shop (standing_of d) s job (rests-of d i none) is
+  searched : (found : Option PostedView) → SearchesSo found → IsSearch d.shop.pool (standing_of d) s found
+  searched found is = subst (λ (x : ShopView). IsSearch x.pool (standing_of d) s found) same is
 
-pub handing-found : (shop : ShopView) (s : Standing) (request : Request) (task : Task) (stock : List View) (duty : Duty) → (f : Finds shop s (posted request task)) → BelongsTo request task → IsDutyOf task s.stock stock duty → Handing shop.pool.pages s.board_pass request s.stock stock duty
-handing-found shop s request task stock duty f belongs is =
-    handing shop.pool.pages f.from.board_pass s.board_pass f.place f.seen request task s.stock stock duty f.inside f.gets belongs f.fits (subst (λ (x : Standing). AreOf shop.pool.pages x.stock) (sym f.is) f.rests.stocked) is
+  pub desk-rested : (stock_room : ℕ) → SearchesSo None → stock_room ≡ d.stock_room → IsDeskOf (rested d s stock_room)
+  desk-rested stock_room is room =
+      let r = search-keeps d.shop (standing_of d) s (rests-of d i none) (searched None is) in
+      record {
+        board_own = r.board_own;
+        pool_own = r.pool_own;
+        inbox_own = r.inbox_own;
+        policy = r.policy;
+        room = r.room;
+        entries = r.entries;
+        few = omega (arith, r.few, ap many_out none);
+        stocked = r.stocked;
+        kept = r.kept;
+        memory = omega (arith, i.memory, room);
+        counted = i.counted;
+        out = subst (λ (o : Option HandedView). OutStands o s.board_pass) (sym none) r.free;
+      }
 
-same-stock : (s from : Standing) → s ≡ record from { board_pass = s.board_pass } → length s.stock ≡ length from.stock
-same-stock s from is = ap (λ (x : Standing). length x.stock) is
+  pub next-rested : (stock_room : ℕ) → SearchesSo None → stock_room ≡ d.stock_room → IsNext d (rested d s stock_room) None
+  next-rested stock_room is room = inr (s, searched None is, ap (λ (n : ℕ). rested d s n) room)
 
-pub desk-given : (d : ShopDeskView) (s : Standing) (request : Request) (task : Task) (stock : List View) (stock_room : ℕ) (duty : Duty) → IsDeskOf d → d.out ≡ None → 1 ≤ d.left → IsSearch d.shop.pool (standing_of d) s (Some (posted request task))
-    → BelongsTo request task → IsDutyOf task s.stock stock duty → stock_room ≡ d.stock_room → IsDeskOf (record (given_out d s stock request duty) { stock_room = stock_room })
-desk-given d s request task stock stock_room duty i none some is belongs of same =
-    let f = found-by d s (posted request task) i none is in
-    let h = handing-found d.shop s request task stock duty f belongs of in
-    let r = f.rests in
-    let pass = ap (λ (p : Pass). p) f.gets.holds in
-    record {
-      board_own = subst (boards.IsPassOf d.shop.board) (sym pass) r.board_own;
-      pool_own = subst (λ (x : Standing). pools.IsPassOf d.shop.pool x.pool_pass) (sym f.is) r.pool_own;
-      inbox_own = subst (λ (x : Standing). inboxes.IsPassOf d.shop.inbox x.inbox_pass) (sym f.is) r.inbox_own;
-      policy = ap (λ (x : Standing). x.local.policy) f.is ∙ r.policy;
-      room = ap (λ (x : Standing). x.local.room) f.is ∙ r.room;
-      entries = subst (λ (x : Standing). All (IsEntryOf 256) x.local.entries) (sym f.is) r.entries;
-      few = omega (arith, r.few, ap (λ (x : Standing). length x.local.entries) f.is);
-      stocked = h.stocked;
-      kept = omega (arith, h.fewer, same-stock s f.from f.is, r.kept);
-      memory = omega (arith, i.memory, same);
-      counted = omega (arith, i.counted, some);
-      out = h.holds;
-    }
+  -- a job was found, and is taken apart
+  module _ (job : PostedView) (is : SearchesSo (Some job)) (request : Request) (task : Task) (parts : (request ≡ job.request) × (task ≡ job.task)) (belongs : BelongsTo job.request job.task) where
+    whole : job ≡ posted request task
+    whole = sym (ap (λ (r : Request). posted r task) parts.0 ∙ ap (λ (t : Task). posted job.request t) parts.1)
+
+    found : Finds d.shop s (posted request task)
+    found = subst (λ (j : PostedView). Finds d.shop s j) whole (search-reaches d.shop (standing_of d) s job (rests-of d i none) (searched (Some job) is))
+
+    belonging : BelongsTo request task
+    belonging = subst (λ (j : PostedView). BelongsTo j.request j.task) whole belongs
+
+    pub found-ready : IsReady task s.stock
+    found-ready = is-ready found.from.board_pass s.board_pass found.place found.seen request task s.stock found.gets found.fits
+
+    module _ (stock : List View) (duty : Duty) (of : IsDutyOf task s.stock stock duty) where
+      handed-out : Handing d.shop.pool.pages s.board_pass request s.stock stock duty
+      handed-out =
+          handing d.shop.pool.pages found.from.board_pass s.board_pass found.place found.seen request task s.stock stock duty found.inside found.gets belonging found.fits (subst (λ (x : Standing). AreOf d.shop.pool.pages x.stock) (sym found.is) found.rests.stocked) of
+
+      pub found-stands : StandsFor request (begins_of duty)
+      found-stands = handed-out.stands
+
+      module _ (out : HandedView) (told : out ≡ handed request duty) (stock_room : ℕ) (room : stock_room ≡ d.stock_room) (left given : ℕ) (less : left + 1 ≡ d.left) (more : given ≡ d.given + 1) where
+        pub desk-given : IsDeskOf (given_out d s stock stock_room out left given)
+        desk-given =
+            let f = found in
+            let h = handed-out in
+            let r = f.rests in
+            record {
+              board_own = subst (boards.IsPassOf d.shop.board) (sym f.gets.holds) r.board_own;
+              pool_own = subst (λ (x : Standing). pools.IsPassOf d.shop.pool x.pool_pass) (sym f.is) r.pool_own;
+              inbox_own = subst (λ (x : Standing). inboxes.IsPassOf d.shop.inbox x.inbox_pass) (sym f.is) r.inbox_own;
+              policy = ap (λ (x : Standing). x.local.policy) f.is ∙ r.policy;
+              room = ap (λ (x : Standing). x.local.room) f.is ∙ r.room;
+              entries = subst (λ (x : Standing). All (IsEntryOf 256) x.local.entries) (sym f.is) r.entries;
+              few = omega (arith, r.few, ap (λ (x : Standing). length x.local.entries) f.is);
+              stocked = h.stocked;
+              kept = omega (arith, h.fewer, ap (λ (x : Standing). length x.stock) f.is, r.kept);
+              memory = omega (arith, i.memory, room);
+              counted = omega (arith, i.counted, less, more);
+              out = subst (λ (o : HandedView). HoldsDuty (begins_in o) s.board_pass) (sym told) h.holds;
+            }
+
+        pub next-given : IsNext d (given_out d s stock stock_room out left given) (Some duty)
+        next-given = (
+          posted request task,
+          s,
+          subst (λ (j : PostedView). IsSearch d.shop.pool (standing_of d) s (Some j)) whole (searched (Some job) is),
+          of,
+          less,
+          ap (λ (o : HandedView). given_out d s stock stock_room o left given) told
+          ∙ ap (λ (n : ℕ). given_out d s stock n (handed request duty) left given) room
+          ∙ ap (λ (n : ℕ). given_out d s stock d.stock_room (handed request duty) left n) more,
+        )
+
+        pub gives-given : Gives (state_of d) (state_of (given_out d s stock stock_room out left given)) duty
+        gives-given = record { bound = omega (arith, less); given = more; ended = refl; out = ap (λ (o : HandedView). Some (begins_in o)) told; quantum = refl; room = handed-out.room }

@@ -152,9 +152,9 @@ resumed-finds shop old new job r is =
     let middle = is.0.0 in
     let between = is.0.1 in
     let drops = is.0.2 in
-    let entry = is.0.3 in
-    let takes = is.0.4 in
-    let claims = is.0.5 in
+    let entry = is.0.3.0 in
+    let takes = is.0.3.1 in
+    let claims = is.0.3.2 in
     let served : List Entry = map (λ (m : Miss). m.entry) drops.misses in
     let own = noted-rest shop.board old.board_pass between (map note_of drops.misses) r.board_own r.free drops.noted in
     let left : All (IsEntryOf 256) middle = all-behind (IsEntryOf 256) old.local.policy old.local.entries served middle drops.served r.entries in
@@ -200,7 +200,7 @@ round-reaches shop berth old new job p is =
       inside = is.0.1;
       seen = claimed.seen;
       gets = claimed.gets;
-      fits = ⊎_elim (λ stopped. inl stopped) (λ waits. inr (waits.0, fits-last berth job.request.program.pages new.stock hand waits.1)) claimed.fits;
+      fits = ⊎_elim (λ stopped. inl stopped) (λ waits. let last = fits-last berth job.request.program.pages new.stock hand waits.1 in inr (waits.0, last.0, last.1, last.2)) claimed.fits;
       is = is.1;
     }
 

@@ -12,4 +12,6 @@ mod meters;
 #[cfg(test)]
 mod places;
 #[cfg(test)]
+mod sessions;
+#[cfg(test)]
 mod shops;

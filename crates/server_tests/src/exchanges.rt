@@ -1,5 +1,5 @@
 //! A thousand requests, which two sessions and two workers of a shop pass between them: through the tenant's meter, a vacant place, the board and the inbox, and back as answers.
-ghost use Rattle.std.specs.Prelude.{◌≡◌, ◌+◌, ◌≤◌, length, None};
+ghost use Rattle.std.specs.Prelude.{◌≡◌, ◌≤◌, length, None};
 ghost use Rattle.std.specs.Arc.{arc_value};
 ghost use Rattle.shop_desks.specs.Shops.{IsVisitOf};
 
@@ -96,7 +96,7 @@ fn session<R: Abort + Wait>(
     requires tenant { length shop.now.meters ≡ 1 }
     ensures { IsVisitOf shop.now result }
 {
-    for round in 0..500u32 {
+    for round in 0..500 {
         let byte = first.wrapping_add((round % 128) as u8);
         exchanges(rt, alloc, shop, &mut visit, program, byte);
     }
@@ -120,7 +120,7 @@ fn sessions<R: Threads + Abort + Wait + Clock + Sync>(
         rt,
         move || -> Visit
             requires { IsVisitOf shop.now one × (length shop.now.meters ≡ 1) }
-            ensures { IsVisitOf shop.entry.now result }
+            ensures { IsVisitOf shop.now result }
         { session(rt, alloc, shop, one, program, 0) },
         move || -> Visit
             requires { IsVisitOf shop.now two × (length shop.now.meters ≡ 1) }

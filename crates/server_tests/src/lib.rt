@@ -12,6 +12,4 @@ mod meters;
 #[cfg(test)]
 mod places;
 #[cfg(test)]
-mod sessions;
-#[cfg(test)]
 mod shops;

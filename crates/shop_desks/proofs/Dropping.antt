@@ -1,7 +1,6 @@
 -- Going through a queue, one entry more each.
-use Rattle.std.proofs.Common.{◌≡◌, ◌≢◌, ⊎_elim, ℕ, List, [], ◌∷◌, ◌++◌, map, Option, None, refl, sym, ap, subst, ◌∙◌}
+use Rattle.std.proofs.Common.{◌≡◌, ◌≢◌, ⊎_elim, ℕ, List, [], ◌∷◌, ◌++◌, map, None, refl, sym, ap, subst, ◌∙◌}
 use Rattle.std.proofs.lemmas.List.Elements.{All-nil, All-push}
-use Rattle.std.specs.List.{All}
 use Rattle.job_board.specs.Boarding as boards
 use Rattle.job_board.specs.Boarding.{BoardView, note, noting}
 use Rattle.job_board.specs.declared.holders.Note.{Note}

@@ -1,10 +1,9 @@
 -- What is handed out, and what that leaves of a desk.
-use Rattle.std.proofs.Common.{◌≡◌, ◌≢◌, ◌⊎◌, ⊎_elim, inr, ℕ, ◌+◌, ◌<◌, ◌≤◌, Bool, true, false, List, [], ◌∷◌, ◌++◌, length, Option, Some, None, option_map, refl, sym, ap, subst, ◌∙◌, arith, length-append}
+use Rattle.std.proofs.Common.{◌≡◌, ◌≢◌, ◌⊎◌, ⊎_elim, inr, ℕ, ◌+◌, ◌<◌, ◌≤◌, true, false, List, [], ◌∷◌, length, Option, Some, None, option_map, refl, sym, ap, subst, ◌∙◌, arith, length-append}
 use Rattle.std.proofs.lemmas.List.Elements.{All-pop}
 use Rattle.std.specs.List.{All}
 use Rattle.job_board.specs.Boarding as boards
 use Rattle.job_board.specs.Boarding.{hold}
-use Rattle.job_board.specs.declared.holders.Hold.{Hold}
 use Rattle.job_board.specs.declared.words.State.{State}
 use Rattle.job_board.specs.declared.words.State.TheVariants as state
 use Rattle.job_board.specs.declared.words.Word.{Word}
@@ -14,15 +13,14 @@ use Rattle.posted_jobs.specs.Posting.{PostedView, BelongsTo, posted}
 use Rattle.posted_jobs.specs.Rounds.{Pass, GetsJob}
 use Rattle.sandbox_states.proofs.SoundLaws.{stands_at_start}
 use Rattle.sandbox_states.specs.Stands.{StandsFor}
-use Rattle.sandbox_states.specs.Views.{AdmittedView, SandboxView, started}
+use Rattle.sandbox_states.specs.Views.{started}
 use Rattle.wasm_meaning.specs.Requests.{Request}
 use Rattle.wasm_store.specs.View.{View}
 use Rattle.worker_desks.proofs.Finding.{AreOf}
-use Rattle.worker_desks.specs.Desks.{Closes, Gives}
+use Rattle.worker_desks.specs.Desks.{Gives}
 use Rattle.worker_desks.specs.Duties.{begins_of, HasRoom}
 use Rattle.worker_desks.specs.Sharing.{IsEntryOf}
 use Rattle.worker_desks.specs.declared.duties.Duty.{Duty}
-use Rattle.worker_desks.specs.declared.duties.Duty.TheVariants.{Begin, Resume}
 use Rattle.worker_desks.specs.declared.tasks.Task.{Task}
 use Rattle.worker_desks.specs.declared.tasks.Task.TheVariants.{Waiting, Suspended, Answered}
 use Rattle.shop_desks.proofs.Searching.{Rests, Finds, search-keeps, search-reaches}

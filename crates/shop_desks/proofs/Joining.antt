@@ -1,5 +1,5 @@
 -- A search, of what its parts came to one after another.
-use Rattle.std.proofs.Common.{◌≡◌, ◌⊎◌, ⊎_elim, inl, inr, ℕ, zero, suc, ◌<◌, ◌≤◌, Bool, true, false, List, length, Option, Some, None, refl, sym, ap, subst, ◌∙◌, arith}
+use Rattle.std.proofs.Common.{◌≡◌, ◌⊎◌, ⊎_elim, inl, inr, ℕ, zero, suc, ◌<◌, ◌≤◌, Bool, false, List, length, Option, Some, None, refl, ap, subst, ◌∙◌, arith}
 use Rattle.std.proofs.lemmas.Bool.Decides.{not_from_Decides}
 use Rattle.std.specs.Bool.{Decides}
 use Rattle.memory_pool.specs.Passing as pools
@@ -9,7 +9,7 @@ use Rattle.posted_jobs.specs.Posting.{PostedView}
 use Rattle.posted_jobs.specs.Rounds.{Pass, IsRound}
 use Rattle.run_queues.specs.Queue.{Queue}
 use Rattle.wasm_store.specs.View.{View}
-use Rattle.shop_desks.specs.Nexts.{Standing, standing, IsStocked, IsBegun, IsResumed, Resumes, with_entries, GoesRound, Begins, Searches, IsSearch}
+use Rattle.shop_desks.specs.Nexts.{Standing, standing, IsStocked, IsBegun, IsResumed, with_entries, Searches, IsSearch}
 
 -- a queue of the same policy and room
 abbrev pub IsSameQueue : (old new : Queue) → Type 0

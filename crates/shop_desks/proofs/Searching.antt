@@ -1,5 +1,5 @@
 -- What a search for a job keeps, and what it finds.
-use Rattle.std.proofs.Common.{◌≡◌, ◌≢◌, ◌⊎◌, ⊎_elim, inl, inr, ℕ, ◌+◌, ◌<◌, ◌≤◌, List, [], ◌∷◌, ◌++◌, length, map, slice_get, Option, Some, None, IsSomeAnd, refl, sym, ap, subst, ◌∙◌, arith, length-append}
+use Rattle.std.proofs.Common.{◌≡◌, ◌⊎◌, ⊎_elim, inl, inr, ℕ, ◌<◌, ◌≤◌, List, [], length, map, slice_get, Option, Some, None, IsSomeAnd, refl, sym, ap, subst, ◌∙◌, arith}
 use Rattle.std.proofs.lemmas.List.Elements.{All-nil, All-push}
 use Rattle.std.specs.List.{All}
 use Rattle.job_board.specs.Boarding as boards
@@ -11,16 +11,15 @@ use Rattle.memory_pool.specs.Passing as pools
 use Rattle.memory_pool.specs.Passing.{PoolView, IsTaken, after}
 use Rattle.place_lists.specs.Inboxes as inboxes
 use Rattle.posted_jobs.specs.Posting.{PostedView}
-use Rattle.posted_jobs.specs.Rounds.{Pass, GetsJob, noting_all, notes_from, Claims, IsRound}
-use Rattle.run_queues.specs.Queue.{Queue}
+use Rattle.posted_jobs.specs.Rounds.{Pass, GetsJob, noting_all, notes_from}
 use Rattle.run_queues.specs.declared.entries.Entry.{Entry}
 use Rattle.wasm_store.specs.View.{View}
 use Rattle.worker_desks.proofs.Entries.{all-left, all-behind, one-less, no-more}
-use Rattle.worker_desks.proofs.Finding.{AreOf, KeepsPass, at-place, kept-after, kept-same}
+use Rattle.worker_desks.proofs.Finding.{AreOf, at-place, kept-after, kept-same}
 use Rattle.worker_desks.specs.Parts.{unbegun, asked_by, Miss, note_of}
 use Rattle.worker_desks.specs.Sharing.{IsEntryOf}
 use Rattle.shop_desks.proofs.Dropping.{claims-rest}
-use Rattle.shop_desks.specs.Nexts.{Standing, HasLast, IsStocked, StocksUp, IsBegun, Begins, IsResumed, Resumes, with_entries, GoesRound, OrElse, Searches, IsSearch}
+use Rattle.shop_desks.specs.Nexts.{Standing, HasLast, IsStocked, StocksUp, IsBegun, Begins, Resumes, with_entries, GoesRound, OrElse, Searches, IsSearch}
 use Rattle.shop_desks.specs.Shops.{ShopView}
 
 -- what holds of the passes, the queue and the stock while no place is held

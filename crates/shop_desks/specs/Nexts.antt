@@ -1,9 +1,6 @@
 -- How a shop's desk finds its next duty, over the views of its passes, its queue and its stock.
 use Rattle.std.specs.Prelude.{◌≡◌, ◌≢◌, ◌⊎◌, ℕ, ◌+◌, ◌<◌, ◌≤◌, true, false, List, [], ◌∷◌, ◌++◌, length, map, Option, Some, None}
 use Rattle.std.specs.List.{All}
-use Rattle.job_board.specs.Words.{word}
-use Rattle.job_board.specs.declared.words.State.TheVariants as state
-use Rattle.job_board.specs.declared.words.Word.{Word}
 use Rattle.memory_pool.specs.Passing as pools
 use Rattle.memory_pool.specs.Passing.{PoolView, IsTaken}
 use Rattle.place_lists.specs.Inboxes as inboxes

@@ -38,7 +38,12 @@ pub fn work_until_dismissed<R: Wait + Copy, G: Gate>(
 }
 
 // Works on duties of one grant. Whether there were any.
-fn works<R: Wait + Copy, G: Gate>(shop: &Shop, worker: u32, desk: &mut ShopDesk<R>, gate: &G) -> bool
+fn works<R: Wait + Copy, G: Gate>(
+    shop: &Shop,
+    worker: u32,
+    desk: &mut ShopDesk<R>,
+    gate: &G,
+) -> bool
     requires shop { desk.old.shop ≡ shop.now }
     requires free { desk.old.out ≡ None }
     ensures shop { desk.new.shop ≡ desk.old.shop }

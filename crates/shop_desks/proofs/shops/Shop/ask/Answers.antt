@@ -1,4 +1,4 @@
-use Rattle.std.proofs.Common.{◌≡◌, List, ap, subst}
+use Rattle.std.proofs.Common.{List, ap, subst}
 use Rattle.tenant_meters.specs.Metered.{MeterView, PassView}
 use Rattle.shop_desks.specs.Asking.{AsksOnce}
 use Rattle.shop_desks.specs.Shops.{ShopView, VisitView}

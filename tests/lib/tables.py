@@ -16,7 +16,7 @@ SHOWN = 300  # letters of a line that differs
 # The tables of each program, in the order in which it prints them.
 PROGRAMS = {
     "wasm_tables": ["integer", "body", "module", "validity", "turns", "batch"],
-    "server_tables": ["http", "recording", "config", "links"],
+    "server_tables": ["http", "recording", "config", "links", "sessions"],
 }
 
 

@@ -23,7 +23,7 @@ mod doors;
 mod links;
 mod ports;
 mod spawners;
-mod words;
+pub(crate) mod words;
 
 use outside_links::{Clock as _, FixedClock};
 use std::alloc::Global;

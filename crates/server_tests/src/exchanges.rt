@@ -1,25 +1,23 @@
-//! A thousand requests, which a session and a worker pass between them: through the tenant's meter, a vacant place, the board and the inbox, and back as answers.
-ghost use Rattle.std.specs.Prelude.{◌≡◌, ◌<◌, ◌≤◌, false, None};
-ghost use Rattle.job_board.specs.Boarding.{places_of, IsPassOf};
-ghost use Rattle.place_lists.specs.Inboxes.{IsPassOf as IsInboxPassOf};
-ghost use Rattle.place_lists.specs.Places.{IsPlace};
-ghost use Rattle.server_tests.specs.Exchanging.{IsSeatOf, IsPurseOf};
+//! A thousand requests, which a session and a worker of a shop pass between them, by the shop's own calls: through the tenant's meter, a vacant place, the board and the inbox, and back as answers.
+ghost use Rattle.std.specs.Prelude.{◌≡◌, ◌≤◌, length, None};
+ghost use Rattle.std.specs.Arc.{arc_value};
+ghost use Rattle.shop_desks.specs.Shops.{IsVisitOf};
 
-use crate::jobs::{WAITS, request_to, turned, waiting};
+use crate::jobs::request_to;
 use admission::Admission;
-use job_board::{Board, BoardPass, Claim, Fill};
 use module_files::program_of;
-use place_lists::{Inbox, InboxPass, Vacancies, VacancyPass};
-use posted_jobs::{Collected, KeptRequest, PostedJob, collect};
+use run_queues::Policy;
 use sandbox_states::Verdict;
+use shop_desks::{Shop, ShopDesk, Visit, work_until_dismissed};
 use std::alloc::Global;
 use std::process::Abort;
 use std::sync::{Arc, Wait};
 use std::test::Fail;
 use std::thread;
-use std::thread::{Threads, join};
-use tenant_meters::{MeterPass, TenantMeter, Terms};
+use std::thread::Threads;
+use tenant_meters::Terms;
 use wasm_instance::Program;
+use worker_desks::{OpenGate, Settings};
 
 // `_start` replies with the first byte of the body: the pair at address 0 tells `fd_read` and `fd_write` of one byte at address 16.
 const FIRST_BYTE: [u8; 157] = [
@@ -35,75 +33,56 @@ const FIRST_BYTE: [u8; 157] = [
     0x00, 0x41, 0x00, 0x0B, 0x08, 0x10, 0x00, 0x00, 0x00, 0x01, 0x00, 0x00, 0x00,
 ];
 
-// What both threads share.
+// What the worker's thread has. It makes its desk there, so that nothing but the runtime's type is left open of what crosses.
 #[derive(Drop)]
-struct Shared {
-    meter: TenantMeter,
-    vacancies: Vacancies,
-    board: Board<PostedJob>,
-    inbox: Inbox,
-}
-
-// A worker's passes.
-#[derive(Drop)]
-struct Seat {
-    board: BoardPass<PostedJob>,
-    inbox: InboxPass,
-}
-
-// A session's passes.
-#[derive(Drop)]
-struct Hand {
-    meter: MeterPass,
-    vacancy: VacancyPass,
-    seat: Seat,
-}
-
-// The session puts its request at a place, and tells so in the inbox.
-fn posts<R: Abort + Wait>(
-    rt: &R,
+struct Bench<R> {
+    rt: R,
     alloc: Global,
-    shared: &Shared,
-    seat: &mut Seat,
-    request: &Arc<KeptRequest>,
-    place: u32,
-)
-    requires own { IsSeatOf shared.now.board shared.now.inbox seat.old.board seat.old.inbox }
-    requires place { IsPlace place }
-    ensures { IsSeatOf shared.now.board shared.now.inbox seat.new.board seat.new.inbox }
-{
-    let job = waiting(alloc, request, place).expect(rt, "memory");
-    assert!(rt; matches!(shared.board.fill(&mut seat.board, place, job), Fill::Filled));
-    assert!(rt; shared.inbox.push(rt, &mut seat.inbox, place).is_ok());
+    shop: Arc<Shop>,
+    visit: Visit,
 }
 
-// What the session finds at its place as soon as the job there is over.
-fn awaited<R: Wait>(
-    rt: &R,
-    board: &Board<PostedJob>,
-    pass: &mut BoardPass<PostedJob>,
-    request: &KeptRequest,
-    place: u32,
-) -> Collected
-    requires own { IsPassOf board.now pass.old × (pass.old.held ≡ None) }
-    requires place { (board.now.terms.fixed ≡ false) × (place < places_of board.now) }
-    ensures { IsPassOf board.now pass.new × (pass.new.held ≡ None) }
+// The worker's thread, until the workers are dismissed.
+fn works<R: Abort + Wait + Copy>(bench: Bench<R>)
+    requires own { IsVisitOf (arc_value bench.shop) bench.visit }
+    requires parts { (2 ≤ bench.visit.board_pass.parts) × (2 ≤ bench.visit.pool_pass.parts) }
 {
-    for _ in rt.forever() {
-        match collect(board, pass, place, request) {
-            Collected::NotOver(_) => thread::yield_now(),
-            over => return over,
-        }
-    }
-    unreachable!()
+    let Bench {
+        rt,
+        alloc,
+        shop,
+        mut visit,
+    } = bench;
+    let theirs = Arc::try_clone(&shop).expect(&rt, "memory");
+    let mut desk = ShopDesk::new(rt, alloc, theirs, &mut visit).expect(&rt, "memory");
+    work_until_dismissed(&shop, 0, &mut desk, &OpenGate);
+}
+
+// A shop of one tenant, who may enter a thousand requests of one unit, and its first visit. A request takes several turns of its quantum.
+fn opened<R: Abort + Wait>(rt: &R, alloc: Global) -> (Arc<Shop>, Visit)
+    ensures own { IsVisitOf (arc_value result.0) result.1 }
+    ensures tenant { length (arc_value result.0).meters ≡ 1 }
+    ensures parts { (result.1.board_pass.parts ≡ 65536) × (result.1.pool_pass.parts ≡ 65536) }
+{
+    let settings = Settings {
+        workers: 1,
+        quantum: 5,
+        policy: Policy::RoundRobin,
+        berths: 1,
+        pages: 1,
+    };
+    let terms = [Terms {
+        capacity: 1_000,
+        rate: 0,
+    }];
+    let (shop, visit) = Shop::new(rt, alloc, settings, terms.as_slice()).expect(rt, "memory");
+    (Arc::new(alloc, shop).expect(rt, "memory"), visit)
 }
 
 // Whether this is the reply of one byte.
-fn is_reply(collected: Collected, byte: u8) -> bool {
-    match collected {
-        Collected::Answered(Verdict::Replied(reply)) => {
-            matches!(reply.bytes(), [found] if *found == byte)
-        }
+fn is_reply(verdict: Verdict, byte: u8) -> bool {
+    match verdict {
+        Verdict::Replied(reply) => matches!(reply.bytes(), [found] if *found == byte),
         _ => false,
     }
 }
@@ -112,134 +91,68 @@ fn is_reply(collected: Collected, byte: u8) -> bool {
 fn exchanges<R: Abort + Wait>(
     rt: &R,
     alloc: Global,
-    shared: &Shared,
-    hand: &mut Hand,
+    shop: &Shop,
+    visit: &mut Visit,
     program: &Arc<Program>,
     byte: u8,
 )
-    requires { IsSeatOf shared.now.board shared.now.inbox hand.old.seat.board hand.old.seat.inbox × IsPurseOf shared.now.meter shared.now.vacancies hand.old.meter hand.old.vacancy }
-    ensures { IsSeatOf shared.now.board shared.now.inbox hand.new.seat.board hand.new.seat.inbox × IsPurseOf shared.now.meter shared.now.vacancies hand.new.meter hand.new.vacancy }
+    requires own { IsVisitOf shop.now visit.old }
+    requires tenant { length shop.now.meters ≡ 1 }
+    ensures { IsVisitOf shop.now visit.new }
 {
-    let answer = shared.meter.ask(rt, &mut hand.meter, 0, 1);
-    assert!(rt; matches!(answer, Admission::Entered));
+    let admission = shop.ask(rt, visit, 0, 0, 1);
+    assert!(rt; matches!(admission, Admission::Entered));
     let request = request_to(alloc, program, byte, 100).expect(rt, "memory");
-    let place = shared.vacancies.take(rt, &mut hand.vacancy);
-    posts(rt, alloc, shared, &mut hand.seat, &request, place);
-    let over = awaited(rt, &shared.board, &mut hand.seat.board, &request, place);
-    assert!(rt; is_reply(over, byte));
-    shared.vacancies.give(rt, &mut hand.vacancy, place);
+    let verdict = shop
+        .answer(rt, alloc, visit, &request, 7)
+        .expect(rt, "memory");
+    assert!(rt; is_reply(verdict, byte));
 }
 
-// The session's thread: the bodies of its requests are all bytes in turn.
+// The session: the bodies of its requests are all bytes in turn. Then the tenant is spent, and the worker is dismissed.
 fn exchanges_all<R: Abort + Wait>(
     rt: &R,
     alloc: Global,
-    shared: &Shared,
-    mut hand: Hand,
+    shop: &Shop,
+    mut visit: Visit,
     program: &Arc<Program>,
-    times: u32,
 )
-    requires { IsSeatOf shared.now.board shared.now.inbox hand.seat.board hand.seat.inbox × IsPurseOf shared.now.meter shared.now.vacancies hand.meter hand.vacancy }
+    requires own { IsVisitOf shop.now visit }
+    requires tenant { length shop.now.meters ≡ 1 }
 {
-    for round in 0..times {
-        exchanges(rt, alloc, shared, &mut hand, program, (round % 256) as u8);
+    for round in 0..1_000u32 {
+        exchanges(rt, alloc, shop, &mut visit, program, (round % 256) as u8);
     }
-    let answer = shared.meter.ask(rt, &mut hand.meter, 0, 1);
-    assert!(rt; matches!(answer, Admission::Spent { .. }));
+    let admission = shop.ask(rt, &mut visit, 0, 0, 1);
+    assert!(rt; matches!(admission, Admission::Spent { .. }));
+    shop.dismiss();
 }
 
-// The next place of the inbox, as soon as there is one.
-fn stolen<R: Wait>(rt: &R, inbox: &Inbox, pass: &mut InboxPass) -> u32
-    requires { IsInboxPassOf inbox.now pass.old }
-    ensures own { IsInboxPassOf inbox.now pass.new }
-    ensures place { IsPlace result }
-{
-    for _ in rt.forever() {
-        match inbox.steal(rt, pass) {
-            Some(place) => return place,
-            None => thread::yield_now(),
-        }
-    }
-    unreachable!()
-}
-
-// The worker takes the job of a place that was pushed, runs it to its end, and puts its answer in its place.
-fn serves<R: Abort + Wait>(rt: &R, alloc: Global, shared: &Shared, seat: &mut Seat)
-    requires { IsSeatOf shared.now.board shared.now.inbox seat.old.board seat.old.inbox }
-    ensures { IsSeatOf shared.now.board shared.now.inbox seat.new.board seat.new.inbox }
-{
-    let place = stolen(rt, &shared.inbox, &mut seat.inbox);
-    let Claim::Got(job) = shared.board.claim(&mut seat.board, place, WAITS) else {
-        panic!(rt; "it waits");
-    };
-    let job = turned(alloc, job).expect(rt, "an answer");
-    shared.board.put_answered(&mut seat.board, place, job);
-}
-
-// The worker's thread.
-fn serves_all<R: Abort + Wait>(rt: &R, alloc: Global, shared: &Shared, mut seat: Seat, times: u32)
-    requires { IsSeatOf shared.now.board shared.now.inbox seat.board seat.inbox }
-{
-    for round in 0..times {
-        let _round = round;
-        serves(rt, alloc, shared, &mut seat);
-    }
-}
-
-// Both threads beside each other.
-fn exchange_by_two<R: Threads + Abort + Wait + Sync>(
+// Both beside each other.
+fn exchange_by_two<R: Threads + Abort + Wait + Copy + Send + Sync + 'static>(
     rt: &R,
     alloc: Global,
-    shared: &Shared,
-    mut hand: Hand,
     program: &Arc<Program>,
-    times: u32,
-)
-    requires own { IsSeatOf shared.now.board shared.now.inbox hand.seat.board hand.seat.inbox × IsPurseOf shared.now.meter shared.now.vacancies hand.meter hand.vacancy }
-    requires parts { hand.seat.board.parts ≡ 65536 }
-{
-    let seat = Seat {
-        board: shared.board.split(&mut hand.seat.board),
-        inbox: shared.inbox.pass(),
+) {
+    let (shop, mut first) = opened(rt, alloc);
+    let visit = shop.visit(alloc, &mut first).expect(rt, "memory");
+    let bench = Bench {
+        rt: *rt,
+        alloc,
+        shop: Arc::try_clone(&shop).expect(rt, "memory"),
+        visit: first,
     };
-    join(
+    let spawned = thread::spawn(
         rt,
         move || -> ()
-            requires { IsSeatOf shared.now.board shared.now.inbox hand.seat.board hand.seat.inbox × IsPurseOf shared.now.meter shared.now.vacancies hand.meter hand.vacancy }
-        { exchanges_all(rt, alloc, shared, hand, program, times) },
-        move || -> ()
-            requires { IsSeatOf shared.now.board shared.now.inbox seat.board seat.inbox }
-        { serves_all(rt, alloc, shared, seat, times) },
+            requires { IsVisitOf (arc_value bench.shop) bench.visit × (2 ≤ bench.visit.board_pass.parts) × (2 ≤ bench.visit.pool_pass.parts) }
+        { works(bench) },
     );
-}
-
-// What two threads share, where the one tenant may enter so many requests of one unit, and a session's passes.
-fn opened<R: Abort + Wait>(rt: &R, alloc: Global, capacity: u64) -> (Shared, Hand)
-    requires { capacity ≤ 1000 }
-    ensures own { IsSeatOf result.0.board result.0.inbox result.1.seat.board result.1.seat.inbox × IsPurseOf result.0.meter result.0.vacancies result.1.meter result.1.vacancy }
-    ensures parts { result.1.seat.board.parts ≡ 65536 }
-{
-    let terms = Terms { capacity, rate: 0 };
-    let (meter, first) = TenantMeter::new(rt, alloc, terms).expect(rt, "memory");
-    let (vacancies, vacancy) = Vacancies::new(rt, alloc).expect(rt, "memory");
-    let (board, pass) = Board::vacant(alloc, 256).expect(rt, "memory");
-    let (inbox, inbox_pass) = Inbox::new(alloc).expect(rt, "memory");
-    let shared = Shared {
-        meter,
-        vacancies,
-        board,
-        inbox,
+    let Ok(worker) = spawned else {
+        panic!(rt; "a thread");
     };
-    let seat = Seat {
-        board: pass,
-        inbox: inbox_pass,
-    };
-    let hand = Hand {
-        meter: first,
-        vacancy,
-        seat,
-    };
-    (shared, hand)
+    exchanges_all(rt, alloc, &shop, visit, program);
+    worker.join(rt);
 }
 
 #[test]
@@ -249,7 +162,6 @@ fn two_threads_pass_a_thousand_requests(rt: HostRuntime) -> Result<(), Fail> {
         .ok()
         .expect(&rt, "a program");
     let program = Arc::new(alloc, program)?;
-    let (shared, hand) = opened(&rt, alloc, 1_000);
-    exchange_by_two(&rt, alloc, &shared, hand, &program, 1_000);
+    exchange_by_two(&rt, alloc, &program);
     Ok(())
 }

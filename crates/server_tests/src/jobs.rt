@@ -27,7 +27,7 @@ const VACANT: Word = Word {
     state: State::Vacant,
 };
 
-pub(crate) const WAITS: Word = Word {
+const WAITS: Word = Word {
     turns: 0,
     state: State::Waiting,
 };
@@ -57,7 +57,7 @@ fn request(alloc: Global, byte: u8) -> Option<Arc<KeptRequest>> {
 }
 
 // A job that waits at this place.
-pub(crate) fn waiting(alloc: Global, request: &Arc<KeptRequest>, place: u32) -> Option<PostedJob>
+fn waiting(alloc: Global, request: &Arc<KeptRequest>, place: u32) -> Option<PostedJob>
     ensures { IfSome result (λ job. (place_of job.task ≡ place) × (kind_of job.task ≡ Kind.Waiting) × (turns_of job.task ≡ 0)) }
 {
     let theirs = Arc::try_clone(request).ok()?;
@@ -65,7 +65,7 @@ pub(crate) fn waiting(alloc: Global, request: &Arc<KeptRequest>, place: u32) -> 
 }
 
 // The job after its one turn, on a new berth.
-pub(crate) fn turned(alloc: Global, job: PostedJob) -> Option<PostedJob>
+fn turned(alloc: Global, job: PostedJob) -> Option<PostedJob>
     ensures { IfSome result (λ over. (place_of over.task ≡ place_of job.task) × (kind_of over.task ≡ Kind.Answered) × (turns_of job.task ≤ turns_of over.task)) }
 {
     let pages = job.pages();

@@ -1,5 +1,6 @@
-use Rattle.server_tests.specs.Exchanging.{IsSeatOf, IsPurseOf}
+use Rattle.std.proofs.Common.{◌≡◌, length}
+use Rattle.shop_desks.specs.Shops.{IsVisitOf}
 use Rattle.server_tests.proofs.exchanges.exchanges_all.Given as goal
 
 abbrev pub invariant-loop-round : goal.invariant-loop-round
-invariant-loop-round g l = IsSeatOf l.shared.board l.shared.inbox l.hand.seat.board l.hand.seat.inbox × IsPurseOf l.shared.meter l.shared.vacancies l.hand.meter l.hand.vacancy
+invariant-loop-round g l = IsVisitOf l.shop l.visit × (length l.shop.meters ≡ 1)

@@ -14,6 +14,7 @@ import socket
 import struct
 import subprocess
 import tempfile
+import threading
 import time
 
 from lib.arrivals import reply_at
@@ -24,6 +25,8 @@ LIMIT = 30  # seconds that a connection of ours may stand still, and that a serv
 FILES = "/proc/%d/%s"
 TICKS = os.sysconf("SC_CLK_TCK")
 PARENT_DEATH_SIGNAL = 1  # of prctl(2)
+PORTS = 10000, 32000
+HANDED_OUT, HANDING_OUT = set(), threading.Lock()
 C_LIBRARY = ctypes.CDLL(None)
 
 
@@ -37,12 +40,16 @@ def patience():
 
 
 def free_ports(count):
-    """Numbers at which nothing listened just now. All are taken at once, so that they differ."""
-    with contextlib.ExitStack() as stack:
-        found = [stack.enter_context(socket.socket()) for _ in range(count)]
-        for one in found:
-            one.bind(("", 0))
-        return [one.getsockname()[1] for one in found]
+    """Numbers at which nothing listened just now, none of them twice. They lie below those that the system gives to clients."""
+    found = []
+    while len(found) < count:
+        with HANDING_OUT, socket.socket() as one, contextlib.suppress(OSError):
+            number = random.SystemRandom().randrange(*PORTS)
+            one.bind(("", number))
+            if number not in HANDED_OUT:
+                HANDED_OUT.add(number)
+                found.append(number)
+    return found
 
 
 def on_free_ports(config, **others):

@@ -79,7 +79,7 @@ def with_refusals(folder):
     lay(folder, {name: json.dumps(content).encode() for name, content in files.items()})
     rows = [
         (["serve"], 2, "usage"), (["serve", "a", "b"], 2, "usage"), (["serve", "missing"], 3, "read missing"), (["serve", "unknown-key"], 4, "config 61"),
-        (["serve", "no-module"], 3, "read none"), (["serve", "no-wasm"], 5, "module 1 0 0"),
+        (["serve", "no-module"], 3, "read none"), (["serve", "no-wasm"], 5, "module 15 0 0"),
     ]  # fmt: skip
     for words, status, note in rows:
         yield " ".join(words), (status, b"", note + "\n"), (lambda got: (got[0], got[1], got[2].decode()))(ended(folder, words))
@@ -464,6 +464,8 @@ def with_harm(folder):
 
 # ---- many connections, one after another
 
+MOST_GROWN = 512  # KiB that a thousand connections may add
+
 
 def one_after_another(port, count):
     """The connections of as many clients, most of which ask and close; some vanish, some send half, some nothing."""
@@ -495,14 +497,17 @@ def with_many(folder):
     with Server(folder, config) as server:
         time.sleep(0.5)
         descriptors, threads = server.descriptors(), server.threads()
-        wrong = one_after_another(server.ports[0], 300)
-        resident = server.resident()
-        wrong += one_after_another(server.ports[0], 1000)
+        wrong = one_after_another(server.ports[0], 500)
+        # Threads come to what they keep for themselves; what is lost with each connection is lost in every series.
+        grown = []
+        while len(grown) < 3 and min(grown, default=MOST_GROWN) >= MOST_GROWN:
+            resident = server.resident()
+            wrong += one_after_another(server.ports[0], 1000)
+            grown.append(server.resident() - resident)
         yield "replies to a thousand connections one after another", 0, wrong
         yield "descriptors behind them", descriptors, settled(server, descriptors)
         yield "threads behind them", threads, server.threads()
-        more = server.resident() - resident
-        yield "memory behind them", "less than 1 MiB more", "less than 1 MiB more" if more < 1024 else "%d KiB more" % more
+        yield "memory behind them", [], grown if min(grown) >= MOST_GROWN else []
 
 
 # ---- requests that never end

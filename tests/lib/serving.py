@@ -21,7 +21,6 @@ from lib.arrivals import reply_at
 from lib.running import PROGRAM, TOP
 
 HOST = "127.0.0.1"
-LIMIT = 30  # seconds that a connection of ours may stand still, and that a server may take to listen or to end
 FILES = "/proc/%d/%s"
 TICKS = os.sysconf("SC_CLK_TCK")
 PARENT_DEATH_SIGNAL = 1  # of prctl(2)
@@ -34,6 +33,10 @@ def patience():
     """The seconds for which a connection of the server waits for its peer, as its source says."""
     with open(os.path.join(TOP, "crates", "outside_links", "src", "tcp_ports.rt"), encoding="utf-8") as file:
         return int(re.search(r"PATIENCE_SECONDS: u64 = (\d+);", file.read())[1])
+
+
+# Seconds that a connection of ours may stand still, and that a server may take to listen or to end: more than it waits itself.
+LIMIT = patience() + 30
 
 
 # ---- ports and configurations

@@ -5,13 +5,15 @@
 
 What is due is reckoned by docs/FORMATS.md (tests/lib/replays.py), or is what `replay` writes of the same streams with the same
 configuration. `curl`, `wrk` and `nginx` are tried where they are installed, and left out with a line where they are not. The groups
-run side by side, each with a server of its own, which is ended by its process id whatever happens. All of it takes about as long as
-three times the link's time limit.
+run side by side, each with a server of its own, which is ended by its process id whatever happens. All of it takes up to four times
+the time limit of a connection, since as long a client that never reads may keep its clerk.
 """
 
 import json
 import os
 import random
+import re
+import shlex
 import shutil
 import socket
 import subprocess
@@ -26,7 +28,7 @@ from lib import interpreter, recordings, replays, usage
 from lib.arrivals import answers_of
 from lib.module_writer import module
 from lib.replays import EXITS, START, Item, Route, Tenant, configuration, refusal, request
-from lib.running import PROGRAM, build, differs, lay
+from lib.running import PROGRAM, TOP, build, differs, lay
 from lib.serving import (
     HOST, LIMIT, Server, asked, connected, cut, exchanged, free_ports, on_free_ports, patience, reply_from, rest_of, sent, vanished,
 )  # fmt: skip
@@ -388,7 +390,7 @@ def dripping(link, seconds):
 
 def deaf(link, count):
     """Asks for more than the system keeps for it, and reads nothing."""
-    link.settimeout(3 * PATIENCE + LIMIT)
+    link.settimeout(WAITS * PATIENCE + LIMIT)
     try:
         sent(link, request(b"GET", b"/large").data * count)
     except socket.timeout:
@@ -416,6 +418,7 @@ def deaf_link(port):
 CLERKS = 2
 DRIPS = 3  # seconds for which the slow clients send
 DEAF = 400  # requests of 64 KiB each, which is more than the system keeps of them
+WAITS = 4  # A write that the system takes a part of is gone on with, and may wait again.
 
 
 def with_harm(folder):
@@ -439,9 +442,9 @@ def with_harm(folder):
             "clients that vanish": pool.submit(later, gone, item.data, 0),
             "clients that fall silent": pool.submit(later, idle, item.data, PATIENCE),
             "clients that send a byte a second": pool.submit(later, slow, item.data, DRIPS + PATIENCE),
-            "clients that never read": pool.submit(later, mute, item.data, 2 * PATIENCE),
+            "clients that never read": pool.submit(later, mute, item.data, WAITS * PATIENCE),
         }
-        limits = [SLACK, PATIENCE + SLACK, DRIPS + PATIENCE + 1 + SLACK, 2 * PATIENCE + 1 + SLACK]
+        limits = [SLACK, PATIENCE + SLACK, DRIPS + PATIENCE + 1 + SLACK, WAITS * PATIENCE + 1 + SLACK]
         for _ in range(20):
             got, took = asked(well, item.data)
             yield "another tenant meanwhile", (reply(item), within(SLACK, 0)), (got, within(SLACK, took))
@@ -459,7 +462,7 @@ def with_harm(folder):
             for link in every:
                 link.close()
         for one in drips + stuck:
-            one.result(3 * PATIENCE + 2 * LIMIT)
+            one.result(WAITS * PATIENCE + 2 * LIMIT)
 
 
 # ---- many connections, one after another
@@ -544,7 +547,36 @@ def none_of(link):
         return b"-"
 
 
-GROUPS = [with_harm, with_plain, with_streams, with_many, with_endless, with_refusals, with_a_taken_port]
+# ---- what the documents show
+
+
+def shown(page):
+    """The command of README.md that asks the example's server, and what it must show."""
+    lines = page.splitlines()
+    at = next(place for place, line in enumerate(lines) if line.startswith("    curl --include"))
+    block = lines[at + 4 : next(place for place in range(at + 4, len(lines)) if lines[place] and not lines[place].startswith("    "))]
+    return lines[at].strip(), "\n".join(line[4:] for line in block).strip("\n")
+
+
+def with_documents(folder):
+    with open(os.path.join(TOP, "docs", "OPERATIONS.md"), encoding="utf-8") as file:
+        told = re.search(r"waits for its client for (\d+) seconds", file.read())
+    yield "the time limit in docs/OPERATIONS.md", str(PATIENCE), told and told[1]
+    with open(os.path.join(TOP, "examples", "config", "server.json")) as file:
+        config = json.load(file)
+    number, config = config["tenants"][0]["port"], on_free_ports(config)
+    os.symlink(os.path.join(TOP, "examples"), os.path.join(folder, "examples"))
+    with open(os.path.join(TOP, "README.md"), encoding="utf-8") as file:
+        command, due = shown(file.read())
+    if not shutil.which("curl"):
+        left_out("curl", "the command of README.md")
+        return
+    with Server(folder, config) as server:
+        words = shlex.split(command.replace(":%d/" % number, ":%d/" % server.ports[0]))
+        yield "README.md: " + command, due, curled(*words[1:]).decode().replace("\r\n", "\n")
+
+
+GROUPS = [with_harm, with_plain, with_streams, with_many, with_endless, with_refusals, with_a_taken_port, with_documents]
 
 
 def passed_and_failed(folder, group):

@@ -8,6 +8,7 @@ from lib import config_reader, recordings
 from lib.tool import reason
 
 SHAPES = {
+    "serve": ("CONFIG",),
     "invoke": ("MODULE", "BODY", "BUDGET"),
     "check": ("CONFIG",),
     "replay": ("CONFIG", "RECORDING"),

@@ -1,5 +1,5 @@
 // The server of a group's first line.
-ghost use Rattle.std.specs.Prelude.{◌≡◌, ◌×◌, IfOk, length};
+ghost use Rattle.std.specs.Prelude.{◌≡◌, IfOk, length};
 ghost use Rattle.serve_config.specs.Routing.{all_routes};
 ghost use Rattle.shop_desks.specs.Shops.{IsFirstVisit, IsVisitOf};
 

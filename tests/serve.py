@@ -9,6 +9,7 @@ run side by side, each with a server of its own, which is ended by its process i
 the time limit of a connection, since as long a client that never reads may keep its clerk.
 """
 
+import contextlib
 import json
 import os
 import random
@@ -26,14 +27,15 @@ from concurrent.futures import ThreadPoolExecutor
 from http_table import ECHO_AND_NIL, ROWS, made_stream
 from lib import interpreter, recordings, replays, usage
 from lib.arrivals import answers_of
+from lib.harmful_clients import DEAF, WAITS, deaf, deaf_link, dripping, later, silent
 from lib.module_writer import module
+from lib.proxying import NGINX, Proxy
 from lib.replays import EXITS, START, Item, Route, Tenant, configuration, refusal, request
 from lib.running import PROGRAM, TOP, build, differs, lay
 from lib.serving import (
-    HOST, LIMIT, Server, asked, connected, cut, exchanged, free_ports, on_free_ports, patience, reply_from, rest_of, sent, vanished,
+    HOST, LIMIT, PATIENCE, Server, asked, connected, cut, exchanged, on_free_ports, reply_from, vanished,
 )  # fmt: skip
 
-PATIENCE = patience()
 SLACK = 3  # seconds that a machine with other work may take besides
 AMPLE = 10**12
 WRITES = "16 77 61 73 69 5F 73 6E 61 70 73 68 6F 74 5F 70 72 65 76 69 65 77 31 08 66 64 5F 77 72 69 74 65 00 00"
@@ -93,26 +95,15 @@ def with_a_taken_port(folder):
     with socket.create_server(("", config["tenants"][1]["port"])):
         status, out, notes = ended(folder, ["serve", "taken"])
     yield "a port that is taken", (10, b"", b"door"), (status, out, notes.splitlines()[-1])
-    with connected_after(config["tenants"][0]["port"]) as link:
-        yield "and the port before it is free again", None, link
+    yield "and the port before it is free again", False, is_listened_at(config["tenants"][0]["port"])
 
 
-class connected_after:
-    """Whether something still listens at a port: its connection, or None."""
-
-    def __init__(self, port):
-        self.port, self.link = port, None
-
-    def __enter__(self):
-        try:
-            self.link = connected(self.port)
-        except ConnectionRefusedError:
-            pass
-        return self.link
-
-    def __exit__(self, *_):
-        if self.link:
-            self.link.close()
+def is_listened_at(port):
+    try:
+        connected(port).close()
+        return True
+    except ConnectionRefusedError:
+        return False
 
 
 # ---- requests and replies
@@ -266,49 +257,6 @@ def with_wrk(port):
     yield "a load by wrk", ([], True), (faults, "Requests/sec" in told)
 
 
-PROXY = """daemon off; master_process off; pid %(folder)s/pid; error_log stderr error;
-events { worker_connections 256; }
-http {
-  access_log off;
-  client_body_temp_path %(folder)s/a; proxy_temp_path %(folder)s/b; fastcgi_temp_path %(folder)s/c; uwsgi_temp_path %(folder)s/d; scgi_temp_path %(folder)s/e;
-  upstream cavundel { server 127.0.0.1:%(there)d; keepalive 4; keepalive_timeout %(kept)ds; }
-  server {
-    listen 127.0.0.1:%(here)d;
-    client_max_body_size 2m;
-    location / { proxy_pass http://cavundel; proxy_http_version 1.1; proxy_set_header Connection ""; }
-  }
-}
-"""
-
-
-class Proxy:
-    """nginx in front of a port, with kept connections behind it."""
-
-    def __init__(self, program, folder, there):
-        self.here = free_ports(1)[0]
-        lay(folder, {"proxy.conf": (PROXY % {"folder": folder, "here": self.here, "there": there, "kept": max(1, PATIENCE - 1)}).encode()})
-        self.child = subprocess.Popen([program, "-p", folder, "-c", os.path.join(folder, "proxy.conf")], stdin=subprocess.DEVNULL, stdout=subprocess.DEVNULL, stderr=subprocess.DEVNULL)
-
-    def __enter__(self):
-        last = time.monotonic() + LIMIT
-        while time.monotonic() < last and self.child.poll() is None:
-            try:
-                connected(self.here).close()
-                return self
-            except ConnectionRefusedError:
-                time.sleep(0.02)
-        self.__exit__()
-        raise RuntimeError("nginx does not listen")
-
-    def __exit__(self, *_):
-        self.child.terminate()
-        try:
-            self.child.wait(LIMIT)
-        except subprocess.TimeoutExpired:
-            self.child.kill()
-            self.child.wait(LIMIT)
-
-
 def told_of(reply_bytes):
     """The status line and the body of a reply, of which a proxy changes the other lines."""
     head, _, body = reply_bytes.partition(b"\r\n\r\n")
@@ -316,11 +264,10 @@ def told_of(reply_bytes):
 
 
 def with_nginx(folder, port):
-    program = shutil.which("nginx") or shutil.which("nginx", path="/usr/sbin")
-    if not program:
+    if not NGINX:
         left_out("nginx", "the proxy in front")
         return
-    with tempfile.TemporaryDirectory(dir=folder) as inside, Proxy(program, inside, port) as proxy:
+    with tempfile.TemporaryDirectory(dir=folder) as inside, Proxy(inside, port) as proxy:
         for name, item, due in rows_of_requests():
             # A proxy repairs or refuses these by itself.
             if name not in ("no Host", "a body in chunks", "a body that is too long", "HTTP/1.0"):
@@ -372,53 +319,8 @@ def with_streams(folder):
 # ---- clients that do harm to themselves
 
 
-def silent(link, data=b""):
-    """Sends something, and then nothing; answers what comes and how long it took until the end."""
-    begun = time.monotonic()
-    link.sendall(data)
-    return rest_of(link), time.monotonic() - begun
-
-
-def dripping(link, seconds):
-    """Sends a head of which a byte comes each second."""
-    last = time.monotonic() + seconds
-    for byte in request(b"GET", b"/nil").data[:-1]:
-        if time.monotonic() >= last or not sent(link, bytes([byte])):
-            return
-        time.sleep(1)
-
-
-def deaf(link, count):
-    """Asks for more than the system keeps for it, and reads nothing."""
-    link.settimeout(WAITS * PATIENCE + LIMIT)
-    try:
-        sent(link, request(b"GET", b"/large").data * count)
-    except socket.timeout:
-        pass
-
-
-def later(port, data, limit):
-    """How long a client waits for its reply that comes behind others."""
-    begun = time.monotonic()
-    with connected(port) as link:
-        link.settimeout(limit + LIMIT)
-        link.sendall(data)
-        return reply_from(link), time.monotonic() - begun
-
-
-def deaf_link(port):
-    """A connection with little room for what comes."""
-    link = socket.socket()
-    link.setsockopt(socket.SOL_SOCKET, socket.SO_RCVBUF, 4096)
-    link.settimeout(LIMIT)
-    link.connect((HOST, port))
-    return link
-
-
 CLERKS = 2
 DRIPS = 3  # seconds for which the slow clients send
-DEAF = 400  # requests of 64 KiB each, which is more than the system keeps of them
-WAITS = 4  # A write that the system takes a part of is gone on with, and may wait again.
 
 
 def with_harm(folder):
@@ -516,27 +418,29 @@ def with_many(folder):
 # ---- requests that never end
 
 
-def with_endless(folder):
-    """Fifteen of them on each of two tenants with sixteen clerks, and more berths than can be taken."""
+def with_endless(folder, policy="rr"):
+    """Fifteen of them on each of two tenants with sixteen clerks, and more berths than can be taken. By `edf` they have time, and the others have not."""
     routes = [route("/loop", "loop", budget=2**40, pages=1), route("/nil", "nil"), route("/echo", "echo", budget=10**6)]
-    config = on_free_ports(configuration([Tenant(2**40, 0, routes) for _ in range(3)], 500, workers=2, berths=48), clerks=16)
+    config = on_free_ports(configuration([Tenant(2**40, 0, routes) for _ in range(3)], 500, workers=2, policy=policy, berths=48), clerks=16)
+    for tenant in config["tenants"]:
+        tenant["routes"][0]["deadline"] = 2**32 - 1
     endless, short, echo = request(b"GET", b"/loop"), request(b"GET", b"/nil"), request(b"POST", b"/echo", bytes(20000))
-    with Server(folder, config) as server:
-        links = [connected(port) for port in server.ports[:2] for _ in range(15)]
-        try:
-            for link in links:
-                link.sendall(endless.data)
-            time.sleep(1)
-            for port in server.ports:
-                for item, due in ((short, reply(short)), (echo, reply(echo, ("reply", bytes(20000))))) * 3:
-                    got, took = asked(port, item.data)
-                    yield "a short request beside thirty that never end", (due, within(SLACK, 0)), (got, within(SLACK, took))
-            for link in links:
-                link.setblocking(False)
-            yield "those that never end have no reply", [b"-"] * 30, [none_of(link) for link in links]
-        finally:
-            for link in links:
-                link.close()
+    with Server(folder, config) as server, contextlib.ExitStack() as stack:
+        links = [stack.enter_context(connected(port)) for port in server.ports[:2] for _ in range(15)]
+        for link in links:
+            link.sendall(endless.data)
+        time.sleep(1)
+        for port in server.ports:
+            for item, due in ((short, reply(short)), (echo, reply(echo, ("reply", bytes(20000))))) * 3:
+                got, took = asked(port, item.data)
+                yield "a short request beside thirty that never end, by " + policy, (due, within(SLACK, 0)), (got, within(SLACK, took))
+        for link in links:
+            link.setblocking(False)
+        yield "those that never end have no reply", [b"-"] * 30, [none_of(link) for link in links]
+
+
+def with_endless_by_deadline(folder):
+    return with_endless(folder, "edf")
 
 
 def none_of(link):
@@ -576,7 +480,7 @@ def with_documents(folder):
         yield "README.md: " + command, due, curled(*words[1:]).decode().replace("\r\n", "\n")
 
 
-GROUPS = [with_harm, with_plain, with_streams, with_many, with_endless, with_refusals, with_a_taken_port, with_documents]
+GROUPS = [with_harm, with_plain, with_streams, with_many, with_endless, with_endless_by_deadline, with_refusals, with_a_taken_port, with_documents]
 
 
 def passed_and_failed(folder, group):

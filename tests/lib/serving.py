@@ -36,7 +36,8 @@ def patience():
 
 
 # Seconds that a connection of ours may stand still, and that a server may take to listen or to end: more than it waits itself.
-LIMIT = patience() + 30
+PATIENCE = patience()
+LIMIT = PATIENCE + 30
 
 
 # ---- ports and configurations

@@ -37,8 +37,8 @@ pub fn serve<
     T: Spawner,
     G: Gate + Drop,
 >(
-    rt: &R,
-    alloc: Global,
+    _rt: &R,
+    _alloc: Global,
     config: Config,
     programs: Vec<Arc<Program>>,
     door: &mut D,
@@ -54,7 +54,6 @@ pub fn serve<
     ensures later { (D.state door.old).faults ≤ (D.state door.new).faults }
     ensures later_threads { T.count threads.old ≤ T.count threads.new }
 {
-    let _ = (rt, alloc);
     drop(config);
     drop(programs);
     drop(clock);

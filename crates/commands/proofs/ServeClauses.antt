@@ -1,5 +1,5 @@
 -- Each clause of `serve_words` follows from its one ending.
-use Rattle.std.proofs.Common.{◌≡◌, ◌≢◌, ◌⊎◌, inl, inr, ⊥, ℕ, ◌*◌, List, [], ◌∷◌, length, Option, None, Some, IfSome, IsSomeAnd, refl, sym, ap, subst, ◌∙◌, arith}
+use Rattle.std.proofs.Common.{◌≡◌, ◌≢◌, ◌⊎◌, inl, inr, ℕ, ◌*◌, List, [], ◌∷◌, length, Option, None, Some, IfSome, IsSomeAnd, refl, sym, ap, subst, ◌∙◌, arith}
 use Rattle.outside.specs.Faults.{Rose}
 use Rattle.outside.specs.Library.{Files, LibraryState}
 use Rattle.outside.specs.Sink.{SinkState}

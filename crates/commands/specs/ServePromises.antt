@@ -1,5 +1,5 @@
 -- What each status of `serve_words` says.
-use Rattle.std.specs.Prelude.{◌≡◌, ◌≢◌, ◌⊎◌, ⊥, ℕ, ◌*◌, List, length, Option, Some}
+use Rattle.std.specs.Prelude.{◌≡◌, ◌≢◌, ◌⊎◌, ℕ, ◌*◌, List, length, Option, Some}
 use Rattle.outside.specs.Faults.{Rose}
 use Rattle.outside.specs.Library.{Fetched, Files, LibraryState}
 use Rattle.outside.specs.Sink.{Appends, SinkState, TakesPrefix}

@@ -1,5 +1,5 @@
 //! The contract of `serve`.
-ghost use Rattle.std.specs.Prelude.{◌≡◌, ◌≤◌, ◌*◌, ◌⊎◌, ⊥, length};
+ghost use Rattle.std.specs.Prelude.{◌≡◌, ◌≤◌, ◌*◌, ◌⊎◌, length};
 ghost use Rattle.outside.specs.Faults.{Rose};
 ghost use Rattle.recorded_runner.specs.Serving.{AreProgramsOf};
 ghost use Rattle.serve_config.specs.Loaded.{programs_in};

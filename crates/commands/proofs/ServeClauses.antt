@@ -116,8 +116,8 @@ completes : (planned result : Status) (lib lib' : LibraryState) (notes notes' : 
     → (result ≡ status.NoThread → Rose t t') → (result ≡ status.DoorFault → Rose d.faults d'.faults) → planned ≡ status.Ok → NoneRose lib lib' notes notes' t t' d d'
     → (result ≡ status.Ok) ⊎ (result ≡ status.NoMemory)
 completes planned result lib lib' notes notes' t t' d d' (inl (is, inl done)) thread fault accepted none = inl done
-completes planned result lib lib' notes notes' t t' d d' (inl (is, inr (inl no))) thread fault accepted none = absurd (none.threads_kept (thread no))
-completes planned result lib lib' notes notes' t t' d d' (inl (is, inr (inr no))) thread fault accepted none = absurd (none.door_kept (fault no))
+completes planned result lib lib' notes notes' t t' d d' (inl (is, inr (inl other))) thread fault accepted none = absurd (none.threads_kept (thread other))
+completes planned result lib lib' notes notes' t t' d d' (inl (is, inr (inr other))) thread fault accepted none = absurd (none.door_kept (fault other))
 completes planned result lib lib' notes notes' t t' d d' (inr (inl (other, same))) thread fault accepted none = absurd (other accepted)
 completes planned result lib lib' notes notes' t t' d d' (inr (inr (inl m))) thread fault accepted none = inr m
 completes planned result lib lib' notes notes' t t' d d' (inr (inr (inr (inl (s, rose))))) thread fault accepted none = absurd (none.notes_kept rose)
@@ -147,8 +147,8 @@ serve_usage gave asked old new t t' d d' e result notes notes' (inl (inl refused
 serve_usage gave asked old new t t' d d' e result notes notes' (inl (inr (c, ready, how))) (inl (s, w)) is =
     elim (begun c t t' d d' e result how s) [
       | inl done ↦ cc
-      | inr (inl no) ↦ cc
-      | inr (inr no) ↦ cc
+      | inr (inl other) ↦ cc
+      | inr (inr other) ↦ cc
     ]
 
 pub serve_usage_else : {L : Type 0} (gave : Giving L) (asked : Option (List ℕ)) (old new : L) (t t' : ℕ) (d d' : DoorState) (e : Ended) (result : Status) (notes notes' : SinkState)
@@ -183,8 +183,8 @@ serve_read_fault state gave tells asked old new t t' d d' e result notes notes' 
 serve_read_fault state gave tells asked old new t t' d d' e result notes notes' (inl (inr (c, ready, how))) (inl (s, w)) is =
     elim (begun c t t' d d' e result how s) [
       | inl done ↦ cc
-      | inr (inl no) ↦ cc
-      | inr (inr no) ↦ cc
+      | inr (inl other) ↦ cc
+      | inr (inr other) ↦ cc
     ]
 
 pub serve_write_fault : {L : Type 0} (gave : Giving L) (asked : Option (List ℕ)) (old new : L) (t t' : ℕ) (d d' : DoorState) (e : Ended) (result : Status) (notes notes' : SinkState)
@@ -195,8 +195,8 @@ serve_write_fault gave asked old new t t' d d' e result notes notes' (inl (inl r
 serve_write_fault gave asked old new t t' d d' e result notes notes' (inl (inr (c, ready, how))) (inl (s, w)) is =
     elim (begun c t t' d d' e result how s) [
       | inl done ↦ cc
-      | inr (inl no) ↦ cc
-      | inr (inr no) ↦ cc
+      | inr (inl other) ↦ cc
+      | inr (inr other) ↦ cc
     ]
 
 pub serve_no_thread : {L : Type 0} (gave : Giving L) (asked : Option (List ℕ)) (old new : L) (t t' : ℕ) (d d' : DoorState) (e : Ended) (result : Status) (notes notes' : SinkState)
@@ -225,6 +225,6 @@ serve_no_recording gave asked old new t t' d d' e result notes notes' (inl (inl 
 serve_no_recording gave asked old new t t' d d' e result notes notes' (inl (inr (c, ready, how))) (inl (s, w)) number = λ is.
     elim (begun c t t' d d' e result how s) [
       | inl done ↦ cc
-      | inr (inl no) ↦ cc
-      | inr (inr no) ↦ cc
+      | inr (inl other) ↦ cc
+      | inr (inr other) ↦ cc
     ]

@@ -161,16 +161,16 @@ fn serve_files<
     ensures same { (L.state lib.new).held ≡ (L.state lib.old).held }
     ensures later { (L.state lib.old).faults ≤ (L.state lib.new).faults }
 {
-    let Some(name) = served_name(words) else {
-        return Ending::usage(alloc);
-    };
-    match prepare(alloc, name, lib) {
-        Ok(ready) => {
-            let Configured { config, programs } = ready;
-            let served = serve(rt, alloc, config, programs, door, clock, threads, gate);
-            served_ending(alloc, served)
-        }
-        Err(why) => why.into_ending(),
+    match served_name(words) {
+        None => Ending::usage(alloc),
+        Some(name) => match prepare(alloc, name, lib) {
+            Ok(ready) => {
+                let Configured { config, programs } = ready;
+                let served = serve(rt, alloc, config, programs, door, clock, threads, gate);
+                served_ending(alloc, served)
+            }
+            Err(why) => why.into_ending(),
+        },
     }
 }
 
@@ -193,8 +193,7 @@ fn served_name(words: &[String]) -> Option<&str>
 
 /// The ending that a server's answer is told as.
 fn served_ending(alloc: Global, served: Served) -> Result<Ending, AllocError>
-    ensures due { IfOk result (λ e. e ≡ due (served_end served)) }
-    ensures enough { IfOk result (λ _. served ≢ Served.NoMemory) }
+    ensures { IfOk result (λ e. (served ≢ Served.NoMemory) × (e ≡ due (served_end served))) }
 {
     match served {
         Served::Closed => Ok(Ending::closed(alloc)),

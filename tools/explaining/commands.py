@@ -12,6 +12,7 @@ SHAPES = {
     "check": ("CONFIG",),
     "replay": ("CONFIG", "RECORDING"),
     "soak": ("START", "COUNT"),
+    "serve": ("CONFIG",),
     "--help": (),
     "--version": (),
 }

@@ -230,7 +230,7 @@ def cases():
     yield [b"invoke", b"m0", b"\xff", b"1"], None, (2, b"", b"usage\n")
 
 
-SHAPES = ["invoke MODULE BODY BUDGET", "check CONFIG", "replay CONFIG RECORDING", "soak START COUNT", "--help", "--version"]
+SHAPES = ["invoke MODULE BODY BUDGET", "check CONFIG", "replay CONFIG RECORDING", "soak START COUNT", "serve CONFIG", "--help", "--version"]
 
 
 def help_is_whole(shown):

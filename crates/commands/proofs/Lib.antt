@@ -12,6 +12,8 @@ pub mod ReadLaws
 pub mod RecordingLaws
 pub mod ReplayLaws
 pub mod ReplayWalks
+pub mod ServeClauses
+pub mod ServeWalks
 pub mod SoakLaws
 pub mod SoakWords
 pub mod SoakWalks

@@ -13,6 +13,8 @@ pub mod Readying
 pub mod Recordings
 pub mod ReplayPlans
 pub mod Replays
+pub mod ServePromises
+pub mod ServeWords
 pub mod SoakPlans
 pub mod Statuses
 pub mod Texts

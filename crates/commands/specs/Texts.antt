@@ -27,6 +27,8 @@ help_text = lines (
     ∷ codes "  sledge soak START COUNT"
     ∷ codes "      makes COUNT requests (1 to 4096) from the number START (below 2^64),"
     ∷ codes "      answers them, and writes the summary to the standard output"
+    ∷ codes "  sledge serve CONFIG"
+    ∷ codes "      answers requests at the ports of the configuration, until it is ended"
     ∷ codes "  sledge --help"
     ∷ codes "      shows this text"
     ∷ codes "  sledge --version"

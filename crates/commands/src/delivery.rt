@@ -32,7 +32,7 @@ pub fn deliver<S: Sink, N: Sink>(
 }
 
 /// Writes the bytes in pieces of `PIECE` bytes and a last shorter one. No bytes are no call.
-fn write_pieces<S: Sink>(bytes: &[u8], sink: &mut S) -> Result<(), Failed>
+pub fn write_pieces<S: Sink>(bytes: &[u8], sink: &mut S) -> Result<(), Failed>
     ensures all { OnOk result (Appends (S.state sink.old) (S.state sink.new) bytes.now) }
     ensures some { OnErr result (TakesPrefix (S.state sink.old) (S.state sink.new) bytes.now) }
     ensures cause { OnErr result (Rose (S.state sink.old).faults (S.state sink.new).faults) }

@@ -3,6 +3,7 @@
 ghost use Rattle.std.specs.Prelude.{◌≡◌, IfOk, string_bytes};
 ghost use Rattle.commands.specs.Endings.{Done, answered, config_fault, due, module_fault, not_read, recording_fault, shown, usage};
 ghost use Rattle.commands.specs.CheckPlans.{counted, counts_line};
+ghost use Rattle.commands.specs.ServeWords.{closed, door_fault, no_thread};
 ghost use Rattle.commands.specs.ReplayPlans.{summary_counts, summary_line};
 ghost use Rattle.workers.specs.Outcomes.{reported_verdict};
 
@@ -131,6 +132,39 @@ impl Ending {
             status: Status::Ok,
             text: Vec::from_slice(alloc, text.as_bytes())?,
             note: String::new(alloc),
+        })
+    }
+
+    /// A server has closed.
+    pub fn closed(alloc: Global) -> Ending
+        ensures { result ≡ due closed }
+    {
+        Ending {
+            status: Status::Ok,
+            text: Vec::new(alloc),
+            note: String::new(alloc),
+        }
+    }
+
+    /// A thread could not be started.
+    pub fn no_thread(alloc: Global) -> Result<Ending, AllocError>
+        ensures { IfOk result (λ e. e ≡ due no_thread) }
+    {
+        Ok(Ending {
+            status: Status::NoThread,
+            text: Vec::new(alloc),
+            note: String::from_str(alloc, "thread\n")?,
+        })
+    }
+
+    /// A listener or one of its ports failed.
+    pub fn door_fault(alloc: Global) -> Result<Ending, AllocError>
+        ensures { IfOk result (λ e. e ≡ due door_fault) }
+    {
+        Ok(Ending {
+            status: Status::DoorFault,
+            text: Vec::new(alloc),
+            note: String::from_str(alloc, "door\n")?,
         })
     }
 

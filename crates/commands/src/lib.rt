@@ -23,11 +23,13 @@ mod planning;
 pub mod read_laws;
 pub mod replay_laws;
 mod replaying;
+mod serving;
 pub mod soak_laws;
 mod soaking;
 mod status;
 mod texts;
 mod top;
 
+pub use serving::serve_words;
 pub use status::Status;
 pub use top::{out_of_memory, run};

@@ -15,6 +15,8 @@ pub const HELP: &str = "usage:
   sledge soak START COUNT
       makes COUNT requests (1 to 4096) from the number START (below 2^64),
       answers them, and writes the summary to the standard output
+  sledge serve CONFIG
+      answers requests at the ports of the configuration, until it is ended
   sledge --help
       shows this text
   sledge --version

@@ -21,7 +21,7 @@ use std::thread::Threads;
 
 /// The note of a run for which there was no memory. It is written as it stands, since there is
 /// no memory to make one.
-const OUT_OF_MEMORY: &[u8] = b"memory\n";
+pub const OUT_OF_MEMORY: &[u8] = b"memory\n";
 
 /// Carries out the command that the words ask for, over the files of `lib`: what it has to say goes
 /// to `out`, and then one line to `notes`. It always returns.

@@ -1,0 +1,59 @@
+//! The files of a server: a configuration of one tenant, and its module.
+
+use outside::{Shelf, Text};
+use std::alloc::{AllocError, Global};
+
+/// One tenant with one route, `/first`, and four clerks, which is the default.
+pub const FOUR_CLERKS: &str = "{\"workers\":2,\"quantum\":1000,\"policy\":\"rr\",\"berths\":2,\"tenants\":[{\"name\":\"t\",\"port\":47613,\"capacity\":1000000,\"rate\":1000,\"routes\":[{\"path\":\"/first\",\"module\":\"first\",\"budget\":100000,\"pages\":1,\"estimate\":10,\"deadline\":50,\"content_type\":\"text/plain\"}]}]}";
+
+/// The same with one clerk.
+pub const ONE_CLERK: &str = "{\"workers\":2,\"quantum\":1000,\"policy\":\"rr\",\"berths\":2,\"clerks\":1,\"tenants\":[{\"name\":\"t\",\"port\":47613,\"capacity\":1000000,\"rate\":1000,\"routes\":[{\"path\":\"/first\",\"module\":\"first\",\"budget\":100000,\"pages\":1,\"estimate\":10,\"deadline\":50,\"content_type\":\"text/plain\"}]}]}";
+
+/// The tenant's port in both.
+pub const PORT: u16 = 47613;
+
+// `_start` replies with the first byte of the body: the pair at address 0 tells `fd_read` and `fd_write` of one byte at address 16.
+const FIRST_BYTE: [u8; 157] = [
+    0x00, 0x61, 0x73, 0x6D, 0x01, 0x00, 0x00, 0x00, 0x01, 0x0C, 0x02, 0x60, 0x04, 0x7F, 0x7F, 0x7F,
+    0x7F, 0x01, 0x7F, 0x60, 0x00, 0x00, 0x02, 0x44, 0x02, 0x16, 0x77, 0x61, 0x73, 0x69, 0x5F, 0x73,
+    0x6E, 0x61, 0x70, 0x73, 0x68, 0x6F, 0x74, 0x5F, 0x70, 0x72, 0x65, 0x76, 0x69, 0x65, 0x77, 0x31,
+    0x07, 0x66, 0x64, 0x5F, 0x72, 0x65, 0x61, 0x64, 0x00, 0x00, 0x16, 0x77, 0x61, 0x73, 0x69, 0x5F,
+    0x73, 0x6E, 0x61, 0x70, 0x73, 0x68, 0x6F, 0x74, 0x5F, 0x70, 0x72, 0x65, 0x76, 0x69, 0x65, 0x77,
+    0x31, 0x08, 0x66, 0x64, 0x5F, 0x77, 0x72, 0x69, 0x74, 0x65, 0x00, 0x00, 0x03, 0x02, 0x01, 0x01,
+    0x05, 0x03, 0x01, 0x00, 0x01, 0x07, 0x0A, 0x01, 0x06, 0x5F, 0x73, 0x74, 0x61, 0x72, 0x74, 0x00,
+    0x02, 0x0A, 0x1A, 0x01, 0x18, 0x00, 0x41, 0x00, 0x41, 0x00, 0x41, 0x01, 0x41, 0x08, 0x10, 0x00,
+    0x1A, 0x41, 0x01, 0x41, 0x00, 0x41, 0x01, 0x41, 0x08, 0x10, 0x01, 0x1A, 0x0B, 0x0B, 0x0E, 0x01,
+    0x00, 0x41, 0x00, 0x0B, 0x08, 0x10, 0x00, 0x00, 0x00, 0x01, 0x00, 0x00, 0x00,
+];
+
+fn add(
+    alloc: Global,
+    files: &mut Vec<(Text, Vec<u8>)>,
+    name: &str,
+    bytes: &[u8],
+) -> Result<(), AllocError> {
+    let name = Text::new(String::from_str(alloc, name)?);
+    match Vec::from_slice(alloc, bytes) {
+        Ok(bytes) => Ok(files.push((name, bytes))?),
+        Err(fault) => {
+            drop(name);
+            Err(fault)
+        }
+    }
+}
+
+/// A shelf with this configuration, named `c`, and its module.
+pub fn shelf(alloc: Global, config: &str) -> Result<Shelf, AllocError> {
+    let mut files = Vec::new(alloc);
+    add(alloc, &mut files, "c", config.as_bytes())?;
+    add(alloc, &mut files, "first", &FIRST_BYTE)?;
+    Ok(Shelf::new(files, Vec::new(alloc)))
+}
+
+/// The words `serve c`.
+pub fn words(alloc: Global) -> Result<Vec<String>, AllocError> {
+    let mut words = Vec::new(alloc);
+    words.push(String::from_str(alloc, "serve")?)?;
+    words.push(String::from_str(alloc, "c")?)?;
+    Ok(words)
+}

@@ -1,5 +1,5 @@
 //! A clerk, who serves the connections of one tenant, one after another.
-ghost use Rattle.std.specs.Prelude.{◌<◌, length};
+ghost use Rattle.std.specs.Prelude.{◌≡◌, ◌<◌, length};
 ghost use Rattle.std.specs.Arc.{arc_value};
 ghost use Rattle.shop_desks.specs.Shops.{IsVisitOf};
 
@@ -24,6 +24,16 @@ impl<P: Drop> Drop for Report<P> {
             port: _,
             no_memory: _,
         } = self;
+    }
+}
+
+impl<P> Report<P> {
+    /// The port, and whether memory ran out.
+    pub(crate) fn into_parts(self) -> (P, bool)
+        ensures { result ≡ (self.port, self.no_memory) }
+    {
+        let Report { port, no_memory } = self;
+        (port, no_memory)
     }
 }
 

@@ -1,5 +1,5 @@
 //! The ports of all tenants.
-ghost use Rattle.std.specs.Prelude.{◌+◌, ◌*◌, ◌<◌, ◌≤◌, ℕ, All, length, IfOk};
+ghost use Rattle.std.specs.Prelude.{◌≡◌, ◌+◌, ◌*◌, ◌<◌, ◌≤◌, ℕ, All, length, IfOk};
 
 use outside_links::{Door, Port};
 use serve_config::Tenant;
@@ -14,6 +14,16 @@ pub(crate) struct Post<P> {
 impl<P: Drop> Drop for Post<P> {
     fn drop(self) {
         let Post { tenant: _, port: _ } = self;
+    }
+}
+
+impl<P> Post<P> {
+    /// The number of the tenant, and the port.
+    pub(crate) fn into_parts(self) -> (u32, P)
+        ensures { result ≡ (self.tenant, self.port) }
+    {
+        let Post { tenant, port } = self;
+        (tenant, port)
     }
 }
 
@@ -37,7 +47,6 @@ pub(crate) fn open_all<D: Door>(
     requires few { length tenants.now ≤ 64 }
     ensures of_tenants { IfOk result (λ posts. All (λ (post : _). post.tenant < length tenants.now) posts.items) }
     ensures count { IfOk result (λ posts. length posts.items ≤ 16 * length tenants.now) }
-    ensures later { (D.state door.old).faults ≤ (D.state door.new).faults }
 {
     let mut posts = Vec::new(alloc);
     let mut number = 0u32;
@@ -66,15 +75,14 @@ fn open_twins<D: Door>(
     requires clerks { 1 ≤ clerks }
     ensures of_tenant { (count : ℕ) → tenant < count → All (λ (post : _). post.tenant < count) posts.old.items → All (λ (post : _). post.tenant < count) posts.new.items }
     ensures count { length posts.new.items ≤ length posts.old.items + clerks }
-    ensures later { (D.state door.old).faults ≤ (D.state door.new).faults }
 {
     let mut first = port;
     for _twin in 1..clerks {
-        let posted = match first.twin() {
-            Ok(twin) => post_at(door, posts, tenant, twin),
-            Err(_) => Err(Unopened::Failed),
+        let Ok(twin) = first.twin() else {
+            door.give_back(first);
+            return Err(Unopened::Failed);
         };
-        if let Err(unopened) = posted {
+        if let Err(unopened) = post_at(door, posts, tenant, twin) {
             door.give_back(first);
             return Err(unopened);
         }
@@ -91,12 +99,11 @@ fn post_at<D: Door>(
 ) -> Result<(), Unopened>
     ensures of_tenant { (count : ℕ) → tenant < count → All (λ (post : _). post.tenant < count) posts.old.items → All (λ (post : _). post.tenant < count) posts.new.items }
     ensures count { length posts.new.items ≤ length posts.old.items + 1 }
-    ensures later { (D.state door.old).faults ≤ (D.state door.new).faults }
 {
     match posts.push(Post { tenant, port }) {
         Ok(()) => Ok(()),
         Err(refused) => {
-            let Post { tenant: _, port } = refused.value;
+            let (_, port) = refused.value.into_parts();
             door.give_back(port);
             Err(Unopened::NoMemory)
         }
@@ -105,10 +112,9 @@ fn post_at<D: Door>(
 
 /// Gives the ports of all these posts back to the door.
 pub(crate) fn give_all<D: Door>(door: &mut D, posts: Vec<Post<D::Port>>)
-    ensures later { (D.state door.old).faults ≤ (D.state door.new).faults }
 {
     for post in posts {
-        let Post { tenant: _, port } = post;
+        let (_, port) = post.into_parts();
         door.give_back(port);
     }
 }

@@ -1,5 +1,5 @@
 //! The server from its first thread to its last.
-ghost use Rattle.std.specs.Prelude.{◌≡◌, ◌≤◌, ◌<◌, ◌*◌, ◌+◌, All, length, IfOk};
+ghost use Rattle.std.specs.Prelude.{◌≡◌, ◌<◌, ◌*◌, ◌⊎◌, All, length};
 ghost use Rattle.std.specs.Arc.{arc_value};
 ghost use Rattle.outside.specs.Faults.{Rose};
 ghost use Rattle.recorded_runner.specs.Serving.{AreProgramsOf};
@@ -20,6 +20,7 @@ use outside_links::{Clock, Door, Port, Spawner};
 use serve_config::Config;
 use shop_desks::Visit;
 use std::alloc::{AllocError, Global};
+use std::collections::VecDeque;
 use std::sync::{Arc, Wait};
 use wasm_instance::Program;
 
@@ -65,8 +66,6 @@ pub fn serve<
     ensures no_thread { result ≡ Served.NoThread → Rose (T.count threads.old) (T.count threads.new) }
     ensures door_fault { result ≡ Served.DoorFault → Rose (D.state door.old).faults (D.state door.new).faults }
     ensures otherwise { (Rose (T.count threads.old) (T.count threads.new) → ⊥) → (Rose (D.state door.old).faults (D.state door.new).faults → ⊥) → (result ≡ Served.Closed) ⊎ (result ≡ Served.NoMemory) }
-    ensures later { (D.state door.old).faults ≤ (D.state door.new).faults }
-    ensures later_threads { T.count threads.old ≤ T.count threads.new }
 {
     let before = Counts::of(door, threads);
     let due = config.clerks as u64 * config.tenants().len() as u64;
@@ -105,8 +104,6 @@ fn serve_all<
     gate: Arc<G>,
 ) -> Result<(), AllocError>
     requires programs { AreProgramsOf (all_routes config.tenants) (programs_in programs.items) }
-    ensures later { (D.state door.old).faults ≤ (D.state door.new).faults }
-    ensures later_threads { T.count threads.old ≤ T.count threads.new }
 {
     let (server, visit) = Server::new(rt, alloc, config, programs)?;
     let staff = Staff {
@@ -134,8 +131,6 @@ fn serve_by<
 ) -> Result<(), AllocError>
     requires own { IsVisitOf (arc_value staff.now.server).shop visit }
     requires parts { CanShare visit 2048 }
-    ensures later { (D.state door.old).faults ≤ (D.state door.new).faults }
-    ensures later_threads { T.count threads.old ≤ T.count threads.new }
 {
     let mut visit = visit;
     let config = staff.server.config();
@@ -183,7 +178,6 @@ fn start_workers<
     requires parts { CanShare visit.old workers }
     ensures own { IsVisitOf (arc_value staff.now.server).shop visit.new }
     ensures parts { GivesAway visit.old visit.new workers }
-    ensures later { T.count threads.old ≤ T.count threads.new }
 {
     let mut started = Started {
         count: 0,
@@ -224,14 +218,13 @@ fn start_clerks<
     requires own { IsVisitOf (arc_value staff.now.server).shop visit.old }
     requires parts { CanShare visit.old (length posts.items) }
     requires tenants { All (λ (post : _). post.tenant < length (arc_value staff.now.server).config.tenants) posts.items }
-    ensures later { (D.state door.old).faults ≤ (D.state door.new).faults }
-    ensures later_threads { T.count threads.old ≤ T.count threads.new }
 {
     let mut started = Started {
         count: 0,
         no_memory: false,
     };
-    for post in posts {
+    let mut rest = VecDeque::from_vec(posts);
+    while let Some(post) = rest.pop_front() {
         match shares_for(staff, visit, to) {
             Ok(shares) => {
                 if start_clerk(staff.rt, staff.alloc, shares, post, threads) == Start::Refused {
@@ -242,7 +235,7 @@ fn start_clerks<
             Err(_) => {
                 staff.server.shop().close();
                 started.no_memory = true;
-                let Post { tenant: _, port } = post;
+                let (_, port) = post.into_parts();
                 door.give_back(port);
             }
         }
@@ -257,13 +250,12 @@ fn gather<R: Wait, D: Door>(
     reports: &Receiver<Report<D::Port>>,
     clerks: u64,
 ) -> bool
-    ensures later { (D.state door.old).faults ≤ (D.state door.new).faults }
 {
     let mut enough = true;
     for _clerk in 0..clerks {
         // A clerk that was started has the other end until it has sent its report.
         if let Ok(report) = reports.recv(rt) {
-            let Report { port, no_memory } = report;
+            let (port, no_memory) = report.into_parts();
             enough = enough && !no_memory;
             door.give_back(port);
         }

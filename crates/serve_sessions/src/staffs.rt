@@ -1,6 +1,7 @@
 //! Who works in a server, and how they are started.
-ghost use Rattle.std.specs.Prelude.{◌≡◌, ◌<◌, ◌≤◌, None, length, IfOk};
+ghost use Rattle.std.specs.Prelude.{◌≡◌, ◌<◌, None, length, IfOk};
 ghost use Rattle.std.specs.Arc.{arc_value};
+ghost use Rattle.std.specs.Thread.{IsSend, IsSync};
 ghost use Rattle.shop_desks.specs.Shops.{IsVisitOf, less_one};
 ghost use Rattle.serve_sessions.specs.Parts.{CanShare, GivesAway};
 
@@ -62,7 +63,6 @@ pub(crate) fn start_worker<
     requires parts { CanShare visit.old 1 }
     ensures own { IsVisitOf (arc_value staff.now.server).shop visit.new }
     ensures parts { GivesAway visit.old visit.new 1 }
-    ensures later { T.count threads.old ≤ T.count threads.new }
 {
     let shop = Arc::try_clone(staff.server.shop())?;
     let desk = ShopDesk::new(staff.rt, staff.alloc, shop, visit)?;
@@ -84,10 +84,9 @@ fn start_bench<R: Wait + Copy + Send + Sync + 'static, G: Gate + Drop, T: Spawne
 ) -> Start
     requires shop { bench.desk.shop ≡ (arc_value bench.server).shop }
     requires free { bench.desk.out ≡ None }
-    ensures later { T.count threads.old ≤ T.count threads.new }
 {
     let work = move ||
-        requires { (bench.desk.shop ≡ (arc_value bench.server).shop) × (bench.desk.out ≡ None) }
+        requires { IsSync R.row × IsSync G.row × (bench.desk.shop ≡ (arc_value bench.server).shop) × (bench.desk.out ≡ None) }
     {
         bench.run()
     };
@@ -113,6 +112,20 @@ impl<P: Drop, C: Drop> Drop for Shares<P, C> {
             clock: _,
             to: _,
         } = self;
+    }
+}
+
+impl<P, C> Shares<P, C> {
+    fn into_parts(self) -> (Arc<Server>, Visit, Arc<C>, Sender<Report<P>>)
+        ensures { result ≡ (self.server, self.visit, self.clock, self.to) }
+    {
+        let Shares {
+            server,
+            visit,
+            clock,
+            to,
+        } = self;
+        (server, visit, clock, to)
     }
 }
 
@@ -151,17 +164,11 @@ pub(crate) fn start_clerk<R: Wait + Copy + Send + Sync + 'static, P: Port, C: Cl
 ) -> Start
     requires own { IsVisitOf (arc_value shares.server).shop shares.visit }
     requires tenant { post.tenant < length (arc_value shares.server).config.tenants }
-    ensures later { T.count threads.old ≤ T.count threads.new }
 {
-    let Shares {
-        server,
-        visit,
-        clock,
-        to,
-    } = shares;
-    let Post { tenant, port } = post;
+    let (server, visit, clock, to) = shares.into_parts();
+    let (tenant, port) = post.into_parts();
     let work = move ||
-        requires { IsVisitOf (arc_value server).shop visit × (tenant < length (arc_value server).config.tenants) }
+        requires { IsSend C.row × IsSend P.Link.row × IsSync R.row × IsSync C.row × IsVisitOf (arc_value server).shop visit × (tenant < length (arc_value server).config.tenants) }
     {
         let pass = visit;
         let end = port;

@@ -8,5 +8,4 @@ abbrev pub invariant-loop-number : goal.invariant-loop-number
 invariant-loop-number g l = record {
   own : IsVisitOf (arc_value l.staff.server).shop l.visit;
   parts : GivesAway l.fn.visit l.visit l.number;
-  later : g.T.Spawner.count l.fn.threads ≤ g.T.Spawner.count l.threads;
 }

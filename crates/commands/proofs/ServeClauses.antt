@@ -23,7 +23,6 @@ use Rattle.commands.specs.declared.status.Status.TheVariants as status
 serve_steady : (name : List ℕ) → IsSteady (serve_plan name)
 serve_steady name = config_plan_steady name (λ c programs. Ends closed) (λ c programs. tt)
 
-
 -- the command came to this ending, or there was no memory
 abbrev pub Reached : {L : Type 0} → Giving L → Option (List ℕ) → (old new : L) (t t' : ℕ) (d d' : DoorState) → Ended → Type 0
 Reached gave asked old new t t' d d' e = EndsServing gave asked old new t t' d d' e ⊎ (e ≡ out_of_memory)

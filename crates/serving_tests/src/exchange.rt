@@ -16,8 +16,7 @@ use std::time::Duration;
 
 const REQUEST: &str = "POST /first HTTP/1.1\r\nHost: x\r\nContent-Length: 2\r\n\r\nhi";
 
-const REPLY: &str =
-    "HTTP/1.1 200 OK\r\nContent-Type: text/plain\r\nContent-Length: 1\r\n\r\nh";
+const REPLY: &str = "HTTP/1.1 200 OK\r\nContent-Type: text/plain\r\nContent-Length: 1\r\n\r\nh";
 
 // How often the client tries to connect before the server listens.
 const TRIES: u64 = 100_000;
@@ -63,10 +62,7 @@ fn exchange<
         + Send
         + Sync
         + 'static,
->(
-    rt: &R,
-    alloc: Global,
-) -> Result<(), AllocError> {
+>(rt: &R, alloc: Global) -> Result<(), AllocError> {
     let limits = Limits {
         patience: Duration::from_secs(5),
         connections: 1,

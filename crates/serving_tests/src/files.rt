@@ -4,10 +4,12 @@ use outside::{Shelf, Text};
 use std::alloc::{AllocError, Global};
 
 /// One tenant with one route, `/first`, and four clerks, which is the default.
-pub const FOUR_CLERKS: &str = "{\"workers\":2,\"quantum\":1000,\"policy\":\"rr\",\"berths\":2,\"tenants\":[{\"name\":\"t\",\"port\":47613,\"capacity\":1000000,\"rate\":1000,\"routes\":[{\"path\":\"/first\",\"module\":\"first\",\"budget\":100000,\"pages\":1,\"estimate\":10,\"deadline\":50,\"content_type\":\"text/plain\"}]}]}";
+pub const FOUR_CLERKS: &str =
+    "{\"workers\":2,\"quantum\":1000,\"policy\":\"rr\",\"berths\":2,\"tenants\":[{\"name\":\"t\",\"port\":47613,\"capacity\":1000000,\"rate\":1000,\"routes\":[{\"path\":\"/first\",\"module\":\"first\",\"budget\":100000,\"pages\":1,\"estimate\":10,\"deadline\":50,\"content_type\":\"text/plain\"}]}]}";
 
 /// The same with one clerk.
-pub const ONE_CLERK: &str = "{\"workers\":2,\"quantum\":1000,\"policy\":\"rr\",\"berths\":2,\"clerks\":1,\"tenants\":[{\"name\":\"t\",\"port\":47613,\"capacity\":1000000,\"rate\":1000,\"routes\":[{\"path\":\"/first\",\"module\":\"first\",\"budget\":100000,\"pages\":1,\"estimate\":10,\"deadline\":50,\"content_type\":\"text/plain\"}]}]}";
+pub const ONE_CLERK: &str =
+    "{\"workers\":2,\"quantum\":1000,\"policy\":\"rr\",\"berths\":2,\"clerks\":1,\"tenants\":[{\"name\":\"t\",\"port\":47613,\"capacity\":1000000,\"rate\":1000,\"routes\":[{\"path\":\"/first\",\"module\":\"first\",\"budget\":100000,\"pages\":1,\"estimate\":10,\"deadline\":50,\"content_type\":\"text/plain\"}]}]}";
 
 /// The tenant's port in both.
 pub const PORT: u16 = 47613;

@@ -111,8 +111,7 @@ fn post_at<D: Door>(
 }
 
 /// Gives the ports of all these posts back to the door.
-pub(crate) fn give_all<D: Door>(door: &mut D, posts: Vec<Post<D::Port>>)
-{
+pub(crate) fn give_all<D: Door>(door: &mut D, posts: Vec<Post<D::Port>>) {
     for post in posts {
         let (_, port) = post.into_parts();
         door.give_back(port);

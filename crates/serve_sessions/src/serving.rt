@@ -123,12 +123,7 @@ fn serve_by<
     C: Clock + Drop,
     T: Spawner,
     G: Gate + Drop,
->(
-    staff: &Staff<R, C, G>,
-    visit: Visit,
-    door: &mut D,
-    threads: &mut T,
-) -> Result<(), AllocError>
+>(staff: &Staff<R, C, G>, visit: Visit, door: &mut D, threads: &mut T) -> Result<(), AllocError>
     requires own { IsVisitOf (arc_value staff.now.server).shop visit }
     requires parts { CanShare visit 2048 }
 {
@@ -249,8 +244,7 @@ fn gather<R: Wait, D: Door>(
     door: &mut D,
     reports: &Receiver<Report<D::Port>>,
     clerks: u64,
-) -> bool
-{
+) -> bool {
     let mut enough = true;
     for _clerk in 0..clerks {
         // A clerk that was started has the other end until it has sent its report.

@@ -87,9 +87,7 @@ fn start_bench<R: Wait + Copy + Send + Sync + 'static, G: Gate + Drop, T: Spawne
 {
     let work = move ||
         requires { IsSync R.row × IsSync G.row × (bench.desk.shop ≡ (arc_value bench.server).shop) × (bench.desk.out ≡ None) }
-    {
-        bench.run()
-    };
+    { bench.run() };
     match threads.start(work) {
         Ok(()) => Start::Started,
         Err(_) => Start::Refused,
@@ -155,13 +153,12 @@ pub(crate) fn shares_for<R, P: Port, C: Clock + Drop, G>(
 }
 
 /// Starts the clerk of this post beside the caller. Where the spawner refuses the thread the shop is closed and the clerk ends here, so that the port comes back as a report in any case.
-pub(crate) fn start_clerk<R: Wait + Copy + Send + Sync + 'static, P: Port, C: Clock + Drop, T: Spawner>(
-    rt: R,
-    alloc: Global,
-    shares: Shares<P, C>,
-    post: Post<P>,
-    threads: &mut T,
-) -> Start
+pub(crate) fn start_clerk<
+    R: Wait + Copy + Send + Sync + 'static,
+    P: Port,
+    C: Clock + Drop,
+    T: Spawner,
+>(rt: R, alloc: Global, shares: Shares<P, C>, post: Post<P>, threads: &mut T) -> Start
     requires own { IsVisitOf (arc_value shares.server).shop shares.visit }
     requires tenant { post.tenant < length (arc_value shares.server).config.tenants }
 {

@@ -1,4 +1,3 @@
-use Rattle.std.specs.Arc.{arc_value}
 use Rattle.shop_desks.specs.Shops.{IsVisitOf}
 use Rattle.serve_sessions.proofs.clerks.clerk.Given as goal
 

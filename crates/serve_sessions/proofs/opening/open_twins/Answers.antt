@@ -1,4 +1,4 @@
-use Rattle.std.proofs.Common.{arith, ◌≤◌, ◌+◌, length}
+use Rattle.std.proofs.Common.{arith}
 use Rattle.serve_sessions.proofs.opening.open_twins.Goals as goal
 
 pub returns-in-Err-clause-of_tenant : goal.returns-in-Err-clause-of_tenant

@@ -1,4 +1,4 @@
-use Rattle.std.proofs.Common.{◌≡◌, ◌+◌, ◌<◌, ◌≤◌, length, ℕ}
+use Rattle.std.proofs.Common.{◌+◌, ◌<◌, ◌≤◌, length, ℕ}
 use Rattle.std.specs.List.{All}
 use Rattle.serve_sessions.proofs.opening.open_twins.Given as goal
 

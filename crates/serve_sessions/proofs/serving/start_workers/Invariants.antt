@@ -1,4 +1,3 @@
-use Rattle.std.proofs.Common.{◌≡◌, ◌≤◌}
 use Rattle.std.specs.Arc.{arc_value}
 use Rattle.shop_desks.specs.Shops.{IsVisitOf}
 use Rattle.serve_sessions.specs.Parts.{GivesAway}

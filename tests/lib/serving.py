@@ -30,14 +30,13 @@ C_LIBRARY = ctypes.CDLL(None)
 
 
 def patience():
-    """The seconds for which a connection of the server waits for its peer, as its source says."""
-    with open(os.path.join(TOP, "crates", "outside_links", "src", "tcp_ports.rt"), encoding="utf-8") as file:
-        return int(re.search(r"PATIENCE_SECONDS: u64 = (\d+);", file.read())[1])
-
-
-# Seconds that a connection of ours may stand still, and that a server may take to listen or to end: more than it waits itself.
-PATIENCE = patience()
-LIMIT = PATIENCE + 30
+    """The seconds for which a connection of the server waits for its peer, as its sources say: what `main` sets, or else the adapters."""
+    for path in ("crates/sledge/src/main.rt", "crates/outside_links/src/tcp_ports.rt"):
+        with open(os.path.join(TOP, path), encoding="utf-8") as file:
+            told = re.search(r"PATIENCE_SECONDS: u64 = (\d+);", file.read())
+        if told:
+            return int(told[1])
+    raise RuntimeError("no source says for how long a connection waits")
 
 
 # ---- ports and configurations

@@ -39,6 +39,11 @@ def patience():
     raise RuntimeError("no source says for how long a connection waits")
 
 
+PATIENCE = patience()
+# Seconds that a connection of ours may stand still, and that a server may take to listen or to end: more than it waits itself.
+LIMIT = PATIENCE + 30
+
+
 # ---- ports and configurations
 
 

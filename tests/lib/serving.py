@@ -47,14 +47,20 @@ LIMIT = PATIENCE + 30
 # ---- ports and configurations
 
 
+def is_listened_at(number):
+    with socket.socket() as one:
+        one.settimeout(LIMIT)
+        return one.connect_ex((HOST, number)) == 0
+
+
 def free_ports(count):
-    """Numbers at which nothing listened just now, none of them twice. They lie below those that the system gives to clients."""
+    """Numbers at which nothing listens, none of them twice. They lie below those that the system gives to clients. None is bound to find out:
+    a process that is started meanwhile would hold it for a moment."""
     found = []
-    while len(found) < count:
-        with HANDING_OUT, socket.socket() as one, contextlib.suppress(OSError):
+    with HANDING_OUT:
+        while len(found) < count:
             number = random.SystemRandom().randrange(*PORTS)
-            one.bind(("", number))
-            if number not in HANDED_OUT:
+            if number not in HANDED_OUT and not is_listened_at(number):
                 HANDED_OUT.add(number)
                 found.append(number)
     return found
@@ -69,8 +75,9 @@ def on_free_ports(config, **others):
 # ---- the server
 
 
-def dies_with_us():
-    C_LIBRARY.prctl(PARENT_DEATH_SIGNAL, signal.SIGKILL)
+def dies_with_us(number=signal.SIGKILL):
+    """In a child: the system sends it this signal when the thread that started it ends."""
+    C_LIBRARY.prctl(PARENT_DEATH_SIGNAL, number)
 
 
 class Server:

@@ -33,7 +33,7 @@ from lib.proxying import NGINX, Proxy
 from lib.replays import EXITS, START, Item, Route, Tenant, configuration, refusal, request
 from lib.running import PROGRAM, TOP, build, differs, lay
 from lib.serving import (
-    HOST, LIMIT, PATIENCE, Server, asked, connected, cut, exchanged, is_listened_at, on_free_ports, reply_from, vanished,
+    HOST, LIMIT, PATIENCE, Server, asked, connected, cut, exchanged, is_listened_at, none_of, on_free_ports, reply_from, vanished,
 )  # fmt: skip
 
 SLACK = 10  # seconds that a machine with other work may take besides
@@ -433,14 +433,6 @@ def with_endless(folder, policy="rr"):
 
 def with_endless_by_deadline(folder):
     return with_endless(folder, "edf")
-
-
-def none_of(link):
-    """What has come, and `-` where nothing has."""
-    try:
-        return link.recv(100)
-    except BlockingIOError:
-        return b"-"
 
 
 # ---- what the documents show

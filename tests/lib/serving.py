@@ -178,6 +178,14 @@ def rest_of(link):
     return b"".join(got)
 
 
+def none_of(link):
+    """What has come, and `-` where nothing has."""
+    try:
+        return link.recv(100)
+    except BlockingIOError:
+        return b"-"
+
+
 def exchanged(port, pieces, chance=None):
     """What comes back on a connection of its own, on which the pieces are sent, now and then with a short pause, and whose end is told behind them."""
     with connected(port) as link:

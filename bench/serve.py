@@ -11,10 +11,12 @@ of 1,000 bytes to the same load, by as many processes as there are workers, and 
 Server and load share the processors: measure on a machine that does nothing else, and compare lines of one run.
 """
 
+import functools
 import multiprocessing
 import os
 import re
 import shutil
+import signal
 import socket
 import subprocess
 import sys
@@ -26,7 +28,7 @@ sys.path.insert(0, os.path.join(os.path.dirname(os.path.abspath(__file__)), ".."
 from lib import replays  # noqa: E402
 from lib.replays import Route, Tenant, configuration, request  # noqa: E402
 from lib.running import build, lay  # noqa: E402
-from lib.serving import HOST, Server, connected, free_ports, on_free_ports, reply_from  # noqa: E402
+from lib.serving import HOST, Server, connected, dies_with_us, free_ports, on_free_ports, reply_from  # noqa: E402
 
 WORKERS, CONNECTIONS, SIZE = (1, 2, 4), (1, 4, 16), 1000
 ROUTES = [Route("/nil", "nil", 10, 1, 0), Route("/echo", "echo", 100000, 2, 0)]
@@ -107,7 +109,9 @@ class Files:
 
     def __enter__(self):
         words = [NGINX, "-p", self.folder, "-c", os.path.join(self.folder, "nginx.conf")]
-        self.child = subprocess.Popen(words, stdin=subprocess.DEVNULL, stdout=subprocess.DEVNULL, stderr=subprocess.DEVNULL)
+        # Its first process ends the others when it is told to end, and not when it is killed.
+        ends = functools.partial(dies_with_us, signal.SIGTERM)
+        self.child = subprocess.Popen(words, stdin=subprocess.DEVNULL, stdout=subprocess.DEVNULL, stderr=subprocess.DEVNULL, preexec_fn=ends)
         last = time.monotonic() + 30
         while time.monotonic() < last and self.child.poll() is None:
             with socket.socket() as link:

@@ -33,10 +33,10 @@ from lib.proxying import NGINX, Proxy
 from lib.replays import EXITS, START, Item, Route, Tenant, configuration, refusal, request
 from lib.running import PROGRAM, TOP, build, differs, lay
 from lib.serving import (
-    HOST, LIMIT, PATIENCE, Server, asked, connected, cut, exchanged, on_free_ports, reply_from, vanished,
+    HOST, LIMIT, PATIENCE, Server, asked, connected, cut, exchanged, is_listened_at, none_of, on_free_ports, reply_from, vanished,
 )  # fmt: skip
 
-SLACK = 3  # seconds that a machine with other work may take besides
+SLACK = 10  # seconds that a machine with other work may take besides
 AMPLE = 10**12
 WRITES = "16 77 61 73 69 5F 73 6E 61 70 73 68 6F 74 5F 70 72 65 76 69 65 77 31 08 66 64 5F 77 72 69 74 65 00 00"
 
@@ -96,14 +96,6 @@ def with_a_taken_port(folder):
         status, out, notes = ended(folder, ["serve", "taken"])
     yield "a port that is taken", (10, b"", b"door"), (status, out, notes.splitlines()[-1])
     yield "and the port before it is free again", False, is_listened_at(config["tenants"][0]["port"])
-
-
-def is_listened_at(port):
-    try:
-        connected(port).close()
-        return True
-    except ConnectionRefusedError:
-        return False
 
 
 # ---- requests and replies
@@ -441,14 +433,6 @@ def with_endless(folder, policy="rr"):
 
 def with_endless_by_deadline(folder):
     return with_endless(folder, "edf")
-
-
-def none_of(link):
-    """What has come, and `-` where nothing has."""
-    try:
-        return link.recv(100)
-    except BlockingIOError:
-        return b"-"
 
 
 # ---- what the documents show

@@ -340,10 +340,10 @@ def recording_cases():
 # ---- words and files
 
 USAGE = [
-    ([], "words none|where the first word is missing|do Begin with one of serve, invoke, check, replay, soak, --help, --version."),
+    ([], "words none|where the first word is missing|do Begin with one of invoke, check, replay, soak, serve, --help, --version."),
     (["Invoke", "m"], "words Invoke m|where the first word: there is no command Invoke|do Write invoke."),
     (["help"], "words help|where the first word: there is no command help|do Write --help."),
-    (["run", "m"], "words run m|where the first word: there is no command run|do Begin with one of serve, invoke, check, replay, soak, --help, --version."),
+    (["run", "m"], "words run m|where the first word: there is no command run|do Begin with one of invoke, check, replay, soak, serve, --help, --version."),
     (["invoke", "m", "b"], "words invoke m b|where behind invoke: 2 words, and there must be 3|do Write invoke MODULE BODY BUDGET; a name with blanks stands in quotes."),
     (["check"], "words check|where behind check: 0 words, and there must be 1|do Write check CONFIG; a name with blanks stands in quotes."),
     (["serve", "c", "8080"], "words serve c 8080|where behind serve: 2 words, and there must be 1|do Write serve CONFIG; a name with blanks stands in quotes."),

@@ -6,7 +6,7 @@ import subprocess
 import time
 
 from lib.running import lay
-from lib.serving import LIMIT, PATIENCE, connected, free_ports
+from lib.serving import LIMIT, PATIENCE, connected, dies_with_us, free_ports
 
 NGINX = shutil.which("nginx") or shutil.which("nginx", path="/usr/sbin")
 PROXY = """daemon off; master_process off; pid %(folder)s/pid; error_log stderr error;
@@ -30,7 +30,7 @@ class Proxy:
     def __init__(self, folder, there):
         self.here = free_ports(1)[0]
         lay(folder, {"proxy.conf": (PROXY % {"folder": folder, "here": self.here, "there": there, "kept": max(1, PATIENCE - 1)}).encode()})
-        self.child = subprocess.Popen([NGINX, "-p", folder, "-c", os.path.join(folder, "proxy.conf")], stdin=subprocess.DEVNULL, stdout=subprocess.DEVNULL, stderr=subprocess.DEVNULL)
+        self.child = subprocess.Popen([NGINX, "-p", folder, "-c", os.path.join(folder, "proxy.conf")], stdin=subprocess.DEVNULL, stdout=subprocess.DEVNULL, stderr=subprocess.DEVNULL, preexec_fn=dies_with_us)
 
     def __enter__(self):
         last = time.monotonic() + LIMIT

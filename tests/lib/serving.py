@@ -30,27 +30,37 @@ C_LIBRARY = ctypes.CDLL(None)
 
 
 def patience():
-    """The seconds for which a connection of the server waits for its peer, as its source says."""
-    with open(os.path.join(TOP, "crates", "outside_links", "src", "tcp_ports.rt"), encoding="utf-8") as file:
-        return int(re.search(r"PATIENCE_SECONDS: u64 = (\d+);", file.read())[1])
+    """The seconds for which a connection of the server waits for its peer, as its sources say: what `main` sets, or else the adapters."""
+    for path in ("crates/sledge/src/main.rt", "crates/outside_links/src/tcp_ports.rt"):
+        with open(os.path.join(TOP, path), encoding="utf-8") as file:
+            told = re.search(r"PATIENCE_SECONDS: u64 = (\d+);", file.read())
+        if told:
+            return int(told[1])
+    raise RuntimeError("no source says for how long a connection waits")
 
 
-# Seconds that a connection of ours may stand still, and that a server may take to listen or to end: more than it waits itself.
 PATIENCE = patience()
+# Seconds that a connection of ours may stand still, and that a server may take to listen or to end: more than it waits itself.
 LIMIT = PATIENCE + 30
 
 
 # ---- ports and configurations
 
 
+def is_listened_at(number):
+    with socket.socket() as one:
+        one.settimeout(LIMIT)
+        return one.connect_ex((HOST, number)) == 0
+
+
 def free_ports(count):
-    """Numbers at which nothing listened just now, none of them twice. They lie below those that the system gives to clients."""
+    """Numbers at which nothing listens, none of them twice. They lie below those that the system gives to clients. None is bound to find out:
+    a process that is started meanwhile would hold it for a moment."""
     found = []
-    while len(found) < count:
-        with HANDING_OUT, socket.socket() as one, contextlib.suppress(OSError):
+    with HANDING_OUT:
+        while len(found) < count:
             number = random.SystemRandom().randrange(*PORTS)
-            one.bind(("", number))
-            if number not in HANDED_OUT:
+            if number not in HANDED_OUT and not is_listened_at(number):
                 HANDED_OUT.add(number)
                 found.append(number)
     return found
@@ -65,8 +75,9 @@ def on_free_ports(config, **others):
 # ---- the server
 
 
-def dies_with_us():
-    C_LIBRARY.prctl(PARENT_DEATH_SIGNAL, signal.SIGKILL)
+def dies_with_us(number=signal.SIGKILL):
+    """In a child: the system sends it this signal when the thread that started it ends."""
+    C_LIBRARY.prctl(PARENT_DEATH_SIGNAL, number)
 
 
 class Server:
@@ -165,6 +176,14 @@ def rest_of(link):
     except ConnectionResetError:
         return b"".join(got), None
     return b"".join(got)
+
+
+def none_of(link):
+    """What has come, and `-` where nothing has."""
+    try:
+        return link.recv(100)
+    except BlockingIOError:
+        return b"-"
 
 
 def exchanged(port, pieces, chance=None):

@@ -8,11 +8,11 @@ from lib import config_reader, recordings
 from lib.tool import reason
 
 SHAPES = {
-    "serve": ("CONFIG",),
     "invoke": ("MODULE", "BODY", "BUDGET"),
     "check": ("CONFIG",),
     "replay": ("CONFIG", "RECORDING"),
     "soak": ("START", "COUNT"),
+    "serve": ("CONFIG",),
     "--help": (),
     "--version": (),
 }

@@ -222,9 +222,14 @@ fn start_clerks<
     while let Some(post) = rest.pop_front() {
         match shares_for(staff, visit, to) {
             Ok(shares) => {
-                if start_clerk(staff.rt, staff.alloc, shares, post, threads) == Start::Refused {
-                    staff.server.shop().close();
-                }
+                start_clerk(
+                    staff.rt,
+                    staff.alloc,
+                    staff.server.shop(),
+                    shares,
+                    post,
+                    threads,
+                );
                 started.count = started.count.saturating_add(1);
             }
             Err(_) => {

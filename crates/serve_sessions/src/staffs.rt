@@ -12,7 +12,7 @@ use crossbeam_channel::Sender;
 use link_sessions::Server;
 use outside::Gate;
 use outside_links::{Clock, Port, Spawner};
-use shop_desks::{ShopDesk, Visit};
+use shop_desks::{Shop, ShopDesk, Visit};
 use std::alloc::{AllocError, Global};
 use std::sync::{Arc, Wait};
 
@@ -158,7 +158,7 @@ pub(crate) fn start_clerk<
     P: Port,
     C: Clock + Drop,
     T: Spawner,
->(rt: R, alloc: Global, shares: Shares<P, C>, post: Post<P>, threads: &mut T) -> Start
+>(rt: R, alloc: Global, shop: &Arc<Shop>, shares: Shares<P, C>, post: Post<P>, threads: &mut T)
     requires own { IsVisitOf (arc_value shares.server).shop shares.visit }
     requires tenant { post.tenant < length (arc_value shares.server).config.tenants }
 {
@@ -171,11 +171,9 @@ pub(crate) fn start_clerk<
         let end = port;
         clerk(&rt, alloc, &*server, pass, tenant, end, &*clock, &to)
     };
-    match threads.start(work) {
-        Ok(()) => Start::Started,
-        Err(work) => {
-            work();
-            Start::Refused
-        }
+    if let Err(work) = threads.start(work) {
+        // A clerk of a closed shop accepts nothing, so that the caller comes back.
+        shop.close();
+        work();
     }
 }

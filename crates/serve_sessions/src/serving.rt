@@ -1,5 +1,5 @@
 //! The server from its first thread to its last.
-ghost use Rattle.std.specs.Prelude.{◌≡◌, ◌<◌, ◌*◌, ◌⊎◌, All, length};
+ghost use Rattle.std.specs.Prelude.{◌≡◌, ◌<◌, ◌*◌, ◌⊎◌, All, length, IfOk};
 ghost use Rattle.std.specs.Arc.{arc_value};
 ghost use Rattle.outside.specs.Faults.{Rose};
 ghost use Rattle.recorded_runner.specs.Serving.{AreProgramsOf};
@@ -113,19 +113,28 @@ fn serve_all<
         clock,
         gate,
     };
-    serve_by(&staff, visit, door, threads)
+    let _over = serve_by(&staff, visit, door, threads)?;
+    Ok(())
 }
 
-// The same, with the staff at hand.
+/// What a server that is over knows of its workers: how many were started, and how many have told that they ended.
+#[derive(Clone, Copy)]
+struct Over {
+    started: u64,
+    ended: u64,
+}
+
+// The same, with the staff at hand. It is over when all workers are.
 fn serve_by<
     R: Wait + Copy + Send + Sync + 'static,
     D: Door,
     C: Clock + Drop,
     T: Spawner,
     G: Gate + Drop,
->(staff: &Staff<R, C, G>, visit: Visit, door: &mut D, threads: &mut T) -> Result<(), AllocError>
+>(staff: &Staff<R, C, G>, visit: Visit, door: &mut D, threads: &mut T) -> Result<Over, AllocError>
     requires own { IsVisitOf (arc_value staff.now.server).shop visit }
     requires parts { CanShare visit 2048 }
+    ensures all_ended { IfOk result (λ over. over.ended ≡ over.started) }
 {
     let mut visit = visit;
     let config = staff.server.config();
@@ -134,7 +143,12 @@ fn serve_by<
     let (end, ends) = bounded(staff.alloc, config.workers as usize)?;
     let posts = match open_all(staff.alloc, door, tenants, config.clerks) {
         Ok(posts) => posts,
-        Err(Unopened::Failed) => return Ok(()),
+        Err(Unopened::Failed) => {
+            return Ok(Over {
+                started: 0,
+                ended: 0,
+            });
+        }
         Err(Unopened::NoMemory) => return Err(AllocError),
     };
     let workers = start_workers(staff, &mut visit, config.workers, &end, threads);
@@ -142,11 +156,14 @@ fn serve_by<
     let all_served = gather(&staff.rt, door, &reports, clerks.count);
     // Sessions wait for the workers, so these go on until no clerk is left.
     staff.server.shop().dismiss();
-    await_workers(&staff.rt, &ends, workers.count);
+    let ended = await_workers(&staff.rt, &ends, workers.count);
     if workers.no_memory || clerks.no_memory || !all_served {
         return Err(AllocError);
     }
-    Ok(())
+    Ok(Over {
+        started: workers.count,
+        ended,
+    })
 }
 
 /// How many threads were started, and whether memory ran out before all were.
@@ -262,10 +279,19 @@ fn gather<R: Wait, D: Door>(
     enough
 }
 
-// Waits until so many workers have ended.
-fn await_workers<R: Wait>(rt: &R, ends: &Receiver<u32>, workers: u64) {
-    for _worker in 0..workers {
-        // Which worker it was tells nothing, and one that was started has the other end until it has sent its number.
-        let _ended = ends.recv(rt);
+// Waits until so many workers have told that they ended, and counts them.
+fn await_workers<R: Wait>(rt: &R, ends: &Receiver<u32>, workers: u64) -> u64
+    ensures { result ≡ workers }
+{
+    let mut ended = 0;
+    for _ in rt.forever() {
+        if ended >= workers {
+            break;
+        }
+        // Which worker it was tells nothing. The caller holds the other end too, so there is one to wait for.
+        if ends.recv(rt).is_ok() {
+            ended += 1;
+        }
     }
+    ended
 }

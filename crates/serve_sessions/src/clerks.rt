@@ -1,5 +1,5 @@
 //! A clerk, who serves the connections of one tenant, one after another.
-ghost use Rattle.std.specs.Prelude.{◌≡◌, ◌<◌, length};
+ghost use Rattle.std.specs.Prelude.{◌≡◌, ◌<◌, length, false};
 ghost use Rattle.std.specs.Arc.{arc_value};
 ghost use Rattle.shop_desks.specs.Shops.{IsVisitOf};
 
@@ -37,7 +37,7 @@ impl<P> Report<P> {
     }
 }
 
-/// Accepts one connection after another and serves it, until no more will come or the shop is closed; then sends the port back. A port that fails closes the shop.
+/// Serves the connections of a port until no more will come or the shop is closed, and then sends the port back.
 pub(crate) fn clerk<R: Wait, P: Port, C: Clock>(
     rt: &R,
     alloc: Global,
@@ -50,6 +50,27 @@ pub(crate) fn clerk<R: Wait, P: Port, C: Clock>(
 )
     requires own { IsVisitOf server.now.shop visit }
     requires tenant { tenant < length server.now.config.tenants }
+    requires idle { (P.state port).lent ≡ 0 }
+{
+    let report = serve_port(rt, alloc, server, visit, tenant, port, clock);
+    // Whoever started the clerk holds the other end, and there is room for each report.
+    let _sent = to.send(rt, report);
+}
+
+// Accepts one connection after another, serves it, and closes it on the port. A port that fails closes the shop. Each link comes back used, but where memory ran out.
+fn serve_port<R: Wait, P: Port, C: Clock>(
+    rt: &R,
+    alloc: Global,
+    server: &Server,
+    visit: Visit,
+    tenant: u32,
+    port: P,
+    clock: &C,
+) -> Report<P>
+    requires own { IsVisitOf server.now.shop visit }
+    requires tenant { tenant < length server.now.config.tenants }
+    requires idle { (P.state port).lent ≡ 0 }
+    ensures idle { result.no_memory ≡ false → (P.state result.port).lent ≡ 0 }
 {
     let mut visit = visit;
     let mut port = port;
@@ -74,6 +95,5 @@ pub(crate) fn clerk<R: Wait, P: Port, C: Clock>(
             }
         }
     }
-    // Whoever started the clerk holds the other end, and there is room for each report.
-    let _sent = to.send(rt, Report { port, no_memory });
+    Report { port, no_memory }
 }

@@ -1,5 +1,6 @@
 //! The ports of all tenants.
 ghost use Rattle.std.specs.Prelude.{◌≡◌, ◌+◌, ◌*◌, ◌<◌, ◌≤◌, ℕ, All, length, IfOk};
+ghost use Rattle.serve_sessions.specs.Posts.{IsPostOf};
 
 use outside_links::{Door, Port};
 use serve_config::Tenant;
@@ -45,17 +46,17 @@ pub(crate) fn open_all<D: Door>(
 ) -> Result<Vec<Post<D::Port>>, Unopened>
     requires clerks { (1 ≤ clerks) × (clerks ≤ 16) }
     requires few { length tenants.now ≤ 64 }
-    ensures of_tenants { IfOk result (λ posts. All (λ (post : _). post.tenant < length tenants.now) posts.items) }
+    ensures of_tenants { IfOk result (λ posts. All (IsPostOf D.Port.Port.state (length tenants.now)) posts.items) }
     ensures count { IfOk result (λ posts. length posts.items ≤ 16 * length tenants.now) }
 {
     let mut posts = Vec::new(alloc);
     let mut number = 0u32;
     for tenant in tenants {
-        let opened = match door.listen(tenant.port) {
-            Ok(port) => open_twins(door, &mut posts, number, port, clerks),
-            Err(_) => Err(Unopened::Failed),
+        let Ok(port) = door.listen(tenant.port) else {
+            give_all(door, posts);
+            return Err(Unopened::Failed);
         };
-        if let Err(unopened) = opened {
+        if let Err(unopened) = open_twins(door, &mut posts, number, port, clerks) {
             give_all(door, posts);
             return Err(unopened);
         }
@@ -73,7 +74,8 @@ fn open_twins<D: Door>(
     clerks: u32,
 ) -> Result<(), Unopened>
     requires clerks { 1 ≤ clerks }
-    ensures of_tenant { (count : ℕ) → tenant < count → All (λ (post : _). post.tenant < count) posts.old.items → All (λ (post : _). post.tenant < count) posts.new.items }
+    requires idle { (D.Port.Port.state port).lent ≡ 0 }
+    ensures of_tenant { (count : ℕ) → tenant < count → All (IsPostOf D.Port.Port.state count) posts.old.items → All (IsPostOf D.Port.Port.state count) posts.new.items }
     ensures count { length posts.new.items ≤ length posts.old.items + clerks }
 {
     let mut first = port;
@@ -97,7 +99,8 @@ fn post_at<D: Door>(
     tenant: u32,
     port: D::Port,
 ) -> Result<(), Unopened>
-    ensures of_tenant { (count : ℕ) → tenant < count → All (λ (post : _). post.tenant < count) posts.old.items → All (λ (post : _). post.tenant < count) posts.new.items }
+    requires idle { (D.Port.Port.state port).lent ≡ 0 }
+    ensures of_tenant { (count : ℕ) → tenant < count → All (IsPostOf D.Port.Port.state count) posts.old.items → All (IsPostOf D.Port.Port.state count) posts.new.items }
     ensures count { length posts.new.items ≤ length posts.old.items + 1 }
 {
     match posts.push(Post { tenant, port }) {

@@ -7,6 +7,7 @@ ghost use Rattle.serve_config.specs.Loaded.{programs_in};
 ghost use Rattle.serve_config.specs.Routing.{all_routes};
 ghost use Rattle.shop_desks.specs.Shops.{IsVisitOf};
 ghost use Rattle.serve_sessions.specs.Causes.{RoseBy};
+ghost use Rattle.serve_sessions.specs.Posts.{IsPostOf};
 ghost use Rattle.serve_sessions.specs.Parts.{CanShare, GivesAway};
 
 use crate::clerks::Report;
@@ -229,7 +230,7 @@ fn start_clerks<
 ) -> Started
     requires own { IsVisitOf (arc_value staff.now.server).shop visit.old }
     requires parts { CanShare visit.old (length posts.items) }
-    requires tenants { All (λ (post : _). post.tenant < length (arc_value staff.now.server).config.tenants) posts.items }
+    requires posts { All (IsPostOf D.Port.Port.state (length (arc_value staff.now.server).config.tenants)) posts.items }
 {
     let mut started = Started {
         count: 0,

@@ -3,6 +3,7 @@ ghost use Rattle.std.specs.Prelude.{◌≡◌, ◌<◌, None, length, IfOk};
 ghost use Rattle.std.specs.Arc.{arc_value};
 ghost use Rattle.std.specs.Thread.{IsSend, IsSync};
 ghost use Rattle.shop_desks.specs.Shops.{IsVisitOf, less_one};
+ghost use Rattle.serve_sessions.specs.Posts.{IsPostOf};
 ghost use Rattle.serve_sessions.specs.Parts.{CanShare, GivesAway};
 
 use crate::clerks::{Report, clerk};
@@ -160,12 +161,12 @@ pub(crate) fn start_clerk<
     T: Spawner,
 >(rt: R, alloc: Global, shop: &Arc<Shop>, shares: Shares<P, C>, post: Post<P>, threads: &mut T)
     requires own { IsVisitOf (arc_value shares.server).shop shares.visit }
-    requires tenant { post.tenant < length (arc_value shares.server).config.tenants }
+    requires post { IsPostOf P.state (length (arc_value shares.server).config.tenants) post }
 {
     let (server, visit, clock, to) = shares.into_parts();
     let (tenant, port) = post.into_parts();
     let work = move ||
-        requires { IsSend C.row × IsSend P.Link.row × IsSync R.row × IsSync C.row × IsVisitOf (arc_value server).shop visit × (tenant < length (arc_value server).config.tenants) }
+        requires { IsSend C.row × IsSend P.Link.row × IsSync R.row × IsSync C.row × IsVisitOf (arc_value server).shop visit × (tenant < length (arc_value server).config.tenants) × ((P.state port).lent ≡ 0) }
     {
         let pass = visit;
         let end = port;

@@ -1,4 +1,4 @@
-use Rattle.std.proofs.Common.{arith}
+use Rattle.std.proofs.Common.{◌≡◌, arith, rules}
 use Rattle.serve_sessions.proofs.opening.open_twins.Goals as goal
 
 pub returns-in-Err-clause-of_tenant : goal.returns-in-Err-clause-of_tenant
@@ -7,6 +7,7 @@ returns-in-Err-clause-of_tenant g c = λ count lt all. c.post_at.ensures.of_tena
 pub loop-twin-preserved : goal.loop-twin-preserved
 loop-twin-preserved g c = record {
   of_tenant = λ count lt all. c.post_at.ensures.of_tenant count lt (c.loop-twin.invariant.of_tenant count lt all);
+  idle = search rules;
   count = let more = c.post_at.ensures.count in let so_far = c.loop-twin.invariant.count in omega arith;
 }
 

@@ -1,5 +1,6 @@
-use Rattle.std.proofs.Common.{◌≡◌, ◌<◌, suc, List, ◌∷◌, length, All, ap, subst, arith, rules}
+use Rattle.std.proofs.Common.{◌≡◌, suc, List, ◌∷◌, length, All, ap, subst, arith, rules}
 use Rattle.std.specs.Arc.{arc_value}
+use Rattle.serve_sessions.specs.Posts.{IsPostOf}
 use Rattle.serve_sessions.proofs.serving.start_clerks.Goals as goal
 
 -- what holds of all holds of all behind the first
@@ -16,7 +17,7 @@ loop-post-preserved-in-Ok g c =
         board = omega (arith, ap length read, before.parts.board, c.shares_for.ensures.parts.board);
         pool = omega (arith, ap length read, before.parts.pool, c.shares_for.ensures.parts.pool);
       };
-      tenants = all_behind (λ post. post.tenant < length (arc_value c.args.staff.now.server).config.tenants) c.in-Some.post c.pop_front.new.self.items c.loop-post.rest.items read before.tenants;
+      posts = all_behind (IsPostOf g.D.Port.Port.state (length (arc_value c.args.staff.now.server).config.tenants)) c.in-Some.post c.pop_front.new.self.items c.loop-post.rest.items read before.posts;
     }
 
 pub loop-post-preserved : goal.loop-post-preserved
@@ -29,5 +30,5 @@ loop-post-preserved g c =
         board = omega (arith, ap length read, before.parts.board, c.shares_for.ensures.parts.board);
         pool = omega (arith, ap length read, before.parts.pool, c.shares_for.ensures.parts.pool);
       };
-      tenants = all_behind (λ post. post.tenant < length (arc_value c.args.staff.now.server).config.tenants) c.in-Some.post c.pop_front.new.self.items c.loop-post.rest.items read before.tenants;
+      posts = all_behind (IsPostOf g.D.Port.Port.state (length (arc_value c.args.staff.now.server).config.tenants)) c.in-Some.post c.pop_front.new.self.items c.loop-post.rest.items read before.posts;
     }

@@ -1,5 +1,5 @@
 use denote.Param.Send.{param_send}
-use Rattle.std.proofs.Common.{◌<◌, length, subst, sym, Global}
+use Rattle.std.proofs.Common.{◌≡◌, ◌<◌, length, subst, sym, Global}
 use Rattle.std.specs.Arc.{arc_value}
 use Rattle.shop_desks.specs.Shops.{IsVisitOf}
 use Rattle.link_sessions.specs.Servers.{ServerView}
@@ -19,5 +19,6 @@ work-requires-after_bounds g c κs within =
           subst (λ parts. IsVisitOf (arc_value {X = ServerView} {Z = Global} parts.0).shop parts.1) shares c.requires.own),
       subst (λ work. work.5 < length (arc_value {X = ServerView} {Z = Global} work.4).config.tenants) back (
           subst (λ parts. c.into_parts-tenant.result.0 < length (arc_value {X = ServerView} {Z = Global} parts.0).config.tenants) shares (
-          subst (λ parts. parts.0 < length (arc_value c.args.shares.server).config.tenants) post c.requires.tenant)),
+          subst (λ parts. parts.0 < length (arc_value c.args.shares.server).config.tenants) post c.requires.post.tenant)),
+      subst (λ work. (g.P.Port.state work.1).lent ≡ 0) back (subst (λ parts. (g.P.Port.state parts.1).lent ≡ 0) post c.requires.post.idle),
     )

@@ -1,5 +1,5 @@
 -- What the workers of a batch share, the caller's passes for it, and the desks over it.
-use Rattle.std.specs.Prelude.{◌≡◌, ℕ, ◌+◌, ◌<◌, ◌≤◌, List, length, None, true}
+use Rattle.std.specs.Prelude.{◌≡◌, ℕ, ◌+◌, ◌<◌, ◌≤◌, List, length, min, None, true}
 use Rattle.std.specs.List.{All}
 use Rattle.job_board.specs.Boarding as boards
 use Rattle.job_board.specs.Boarding.{places_of, terms, first_pass}
@@ -21,11 +21,11 @@ pub record AreOf (w : Workshop) (passes : Passes) : Type 0 where
   pub pool : pools.IsPassOf w.pool passes.pool
   pub queue : passes.queue.id ≡ w.queue.id
 
--- a workshop for these tasks, with as many berths as the settings say and their policy, and with all its passes
+-- a workshop for these tasks, with as many berths as the settings say, but no more than there are tasks, with the settings' policy, and with all its passes
 pub record IsLaidOut (s : Settings) (tasks : List Task) (w : Workshop) (passes : Passes) : Type 0 where
   pub terms_are : w.board.terms ≡ terms true s.quantum tasks
   pub places : places_of w.board ≡ length tasks
-  pub berths : slots_of w.pool ≡ s.berths
+  pub berths : slots_of w.pool ≡ min s.berths (length tasks)
   pub pages : w.pool.pages ≡ s.pages
   pub policy : w.policy ≡ s.policy
   pub drawn : All (λ place. place < places_of w.board) w.queue.places

@@ -20,7 +20,7 @@ use worker_desks::{Settings, Task};
 ///
 /// There are at most 4,096 requests, each with its number in the batch as its place. The settings are within the limits, and their pages are at least those of each program. `Err` comes of want of memory alone, before the first turn: all memory is taken before that.
 ///
-/// The workers share a pool of as many berths as the settings say. The calling thread has one berth more: after the workers have ended it finishes each request that they did not, as worker number `settings.workers`. The gate is passed before each turn, by workers and caller alike.
+/// The workers share a pool of as many berths as the settings say, and no more than there are requests. The calling thread has one berth more: after the workers have ended it finishes each request that they did not, as worker number `settings.workers`. The gate is passed before each turn, by workers and caller alike.
 pub fn run_batch<R: Threads + Sync, G: Gate>(
     rt: &R,
     alloc: Global,

@@ -1,6 +1,7 @@
 //! The workers of a batch.
-ghost use Rattle.std.specs.Prelude.{◌≡◌, ℕ, ◌+◌, ◌<◌, ◌≤◌, ◌^◌, length, slice_index_or, IfOk, OnOk};
+ghost use Rattle.std.specs.Prelude.{◌≡◌, ℕ, ◌+◌, ◌<◌, ◌≤◌, ◌^◌, min, length, slice_index_or, IfOk, OnOk};
 ghost use Rattle.std.specs.List.{All};
+ghost use Rattle.job_board.specs.Boarding.{places_of};
 ghost use Rattle.memory_pool.specs.Passing.{slots_of};
 ghost use Rattle.worker_desks.specs.Desks.{IsOpen};
 ghost use Rattle.worker_desks.specs.Sharing.{SharedView, state_of};
@@ -24,7 +25,7 @@ pub(crate) fn hire<'a>(
     requires own { AreOf workshop.now passes.old }
     requires parts { (passes.old.board.parts ≡ 65536) × ((passes.old.pool.parts ≡ 65536) × (passes.old.queue.parts ≡ 65536)) }
     requires workers { settings.now.workers ≤ 64 }
-    requires berths { slots_of workshop.now.pool ≡ settings.now.berths }
+    requires berths { slots_of workshop.now.pool ≡ min settings.now.berths (places_of workshop.now.board) }
     requires policy { workshop.now.policy ≡ settings.now.policy }
     ensures own { OnOk result (AreOf workshop.now passes.new) }
     ensures parts { IfOk result (λ desks. passes.new.board.parts + length desks.items ≡ 65536) }

@@ -31,7 +31,7 @@ pub(crate) struct Passes {
 }
 
 impl Workshop {
-    /// A workshop for these tasks, none of which has begun, with as many berths and the policy as the settings say, and all its passes.
+    /// A workshop for these tasks, none of which has begun, with the policy of the settings, and all its passes. It has as many berths as the settings say, and no more than there are tasks: a task holds one berth at a time.
     pub(crate) fn new(
         alloc: Global,
         tasks: Vec<Task>,
@@ -43,8 +43,10 @@ impl Workshop {
         requires unbegun { AreUnbegun place_of kind_of turns_of tasks.items }
         ensures { IfOk result (λ made. IsLaidOut settings.now tasks.items made.0 made.1) }
     {
-        let places = numbers_of(alloc, tasks.len() as u32)?;
-        let (pool, pool_pass) = Pool::new(alloc, settings.berths, settings.pages)?;
+        let count = tasks.len() as u32;
+        let berths = settings.berths.min(count);
+        let places = numbers_of(alloc, count)?;
+        let (pool, pool_pass) = Pool::new(alloc, berths, settings.pages)?;
         let (queue, queue_pass) = Common::new(alloc, places)?;
         let (board, board_pass) = Board::new(alloc, tasks, settings.quantum)?;
         let workshop = Workshop {

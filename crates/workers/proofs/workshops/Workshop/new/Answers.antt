@@ -1,4 +1,4 @@
-use Rattle.std.proofs.Common.{◌≡◌, ℕ, ◌<◌, List, length, refl, sym, ap, subst, arith, rules}
+use Rattle.std.proofs.Common.{◌≡◌, ℕ, ◌<◌, List, length, min, refl, sym, ap, subst, ◌∙◌, arith, rules}
 use Rattle.std.specs.List.{All}
 use Rattle.job_board.specs.Boarding as boards
 use Rattle.memory_pool.specs.Passing as pools
@@ -11,11 +11,11 @@ returns c =
     let board = c.in_ok-board.ensures.pass in
     let pool = c.in_ok-pool.ensures.pass in
     let queue = c.in_ok-queue.ensures.pass in
-    let count : c.len.result ≡ length c.args.tasks.items = search rules in
+    let count : c.len-count.result ≡ length c.args.tasks.items = search rules in
     record {
       terms_are = c.in_ok-board.ensures.board.0;
       places = c.in_ok-board.ensures.board.1;
-      berths = c.in_ok-pool.ensures.pool.1;
+      berths = c.in_ok-pool.ensures.pool.1 ∙ c.min-berths.ensures ∙ ap (λ (n : ℕ). min c.args.settings.now.berths n) count;
       pages = c.in_ok-pool.ensures.pool.0;
       policy = refl;
       drawn = subst (λ (places : List ℕ). All (λ place. place < boards.places_of c.in_ok-board.board) places) (sym c.in_ok-queue.ensures.places)

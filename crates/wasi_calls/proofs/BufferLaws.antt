@@ -356,9 +356,8 @@ walking_goes call before now after i at buffer left known place is less fits lai
 
 -- Iovecs that are saved in a list.
 
-pub saved_begins : (memory : List ℕ) (call : Transfer) (iovecs : List Iovec) → length iovecs ≡ 0 → map buffer_of iovecs ++ buffers_at memory (call.buffers + 8 * 0) (call.count - 0) ≡ listed memory call
-saved_begins memory call [] none = sym (buffers_first memory call.buffers call.count)
-saved_begins memory call (iovec ∷ iovecs) none = let bad : ⊥ = omega (arith, none) in absurd bad
+pub saved_begins : (memory : List ℕ) (call : Transfer) → buffers_at memory (call.buffers + 8 * 0) (call.count - 0) ≡ listed memory call
+saved_begins memory call = sym (buffers_first memory call.buffers call.count)
 
 pub saved_goes
     : (all : List Buffer) (iovecs after : List Iovec) (iovec : Iovec) (left rest : List Buffer) → map buffer_of iovecs ++ left ≡ all → left ≡ buffer_of iovec ∷ rest → after ≡ iovecs ++ iovec ∷ []

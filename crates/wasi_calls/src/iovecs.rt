@@ -6,6 +6,9 @@ ghost use Rattle.wasi_calls.specs.Transfers.{buffer_of, lies_apart};
 
 use wasm_store::Vessel;
 
+/// The most iovecs of a call.
+pub const MOST_IOVECS: u32 = 1_024;
+
 /// A range of the memory.
 #[derive(Clone, Copy)]
 pub struct Iovec {

@@ -1,12 +1,12 @@
 //! `fd_read`: the next bytes of the body go into buffers.
-ghost use Rattle.std.specs.Prelude.{◌≡◌, ℕ, ◌+◌, ◌*◌, ◌^◌, ◌<◌, ◌≤◌, ◌++◌, length, take, drop, map, true, vec_len, vec_capacity};
+ghost use Rattle.std.specs.Prelude.{◌≡◌, ℕ, ◌+◌, ◌*◌, ◌^◌, ◌<◌, ◌≤◌, ◌++◌, length, take, drop, map, true};
 ghost use Rattle.wasm_meaning.specs.HostCalls.{all_lie_in, listed, reaches, scattered, read_error, read};
 ghost use Rattle.wasi_calls.specs.Answers.{Moves};
 ghost use Rattle.wasi_calls.specs.Transfers.{buffer_of, transfer_for, all_lie_apart, Surveyed, IsCheck};
 
 use crate::errnos::{BAD_FILE_DESCRIPTOR, FAULT, INVALID_ARGUMENT, SUCCESS};
-use crate::iovecs::{Iovec, Survey};
-use crate::streams::{MOST_IOVECS, Streams};
+use crate::iovecs::{Iovec, MOST_IOVECS, Survey};
+use crate::streams::Streams;
 use crate::transfers::{Done, StreamCall, price_of_moving};
 use wasm_store::Vessel;
 
@@ -80,7 +80,7 @@ impl StreamCall {
         if survey.apart {
             self.scatter_apart(vessel, streams.next_bytes(count));
         } else {
-            streams.scatter_saved(self, vessel, count);
+            self.scatter_saved(vessel, streams.next_bytes(count));
         }
     }
 
@@ -98,16 +98,30 @@ impl StreamCall {
         }
     }
 
-    /// Adds the iovecs of the array to a list that has room for them.
-    pub fn save(self, vessel: &Vessel, iovecs: &mut Vec<Iovec>)
+    // Reads all iovecs of the array first, which a buffer may overwrite.
+    #[cold]
+    #[inline(never)]
+    fn scatter_saved(self, vessel: &mut Vessel, bytes: &[u8])
+        requires few { self.count ≤ 1024 }
+        requires reaches { reaches vessel.old.memory (transfer_for self) ≡ true }
+        ensures vessel { vessel.new ≡ record vessel.old { memory = scattered vessel.old.memory (listed vessel.old.memory (transfer_for self)) bytes.now } }
+        ensures size { length vessel.new.memory ≡ length vessel.old.memory }
+    {
+        let mut saved = [Iovec { at: 0, count: 0 }; MOST_IOVECS as usize];
+        self.save(vessel, &mut saved);
+        let (iovecs, _) = saved.split_at(self.count as usize);
+        scatter_in(vessel, iovecs, bytes);
+    }
+
+    // Lays the iovecs of the array at the front of a list that is as long or longer.
+    fn save(self, vessel: &Vessel, iovecs: &mut [Iovec])
         requires reaches { reaches vessel.now.memory (transfer_for self) ≡ true }
-        requires none { vec_len iovecs.old ≡ 0 }
-        requires room { self.count ≤ vec_capacity iovecs.old }
-        ensures iovecs { map buffer_of iovecs.new.items ≡ listed vessel.now.memory (transfer_for self) }
-        ensures room { vec_capacity iovecs.old ≤ vec_capacity iovecs.new }
+        requires room { self.count ≤ length iovecs.old }
+        ensures iovecs { map buffer_of (take self.count iovecs.new) ≡ listed vessel.now.memory (transfer_for self) }
+        ensures size { length iovecs.new ≡ length iovecs.old }
     {
         for i in 0..self.count {
-            iovecs.push_reserved(Iovec::load(vessel, self.place_of(i)));
+            iovecs[i as usize] = Iovec::load(vessel, self.place_of(i));
         }
     }
 }

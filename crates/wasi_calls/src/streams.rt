@@ -1,20 +1,11 @@
 //! The bytes that a request brings, and those of its reply.
-ghost use Rattle.std.specs.Prelude.{◌≡◌, ℕ, ◌+◌, ◌-◌, ◌^◌, ◌<◌, ◌≤◌, [], ◌++◌, length, take, drop, true, IfOk, IfErr};
-ghost use Rattle.wasm_meaning.specs.HostCalls.{listed, reaches, scattered};
-ghost use Rattle.wasi_calls.specs.Transfers.{transfer_for};
+ghost use Rattle.std.specs.Prelude.{◌≡◌, ℕ, ◌+◌, ◌-◌, ◌^◌, ◌<◌, ◌≤◌, [], ◌++◌, length, take, drop, IfOk, IfErr};
 
-use crate::iovecs::Iovec;
-use crate::reads::scatter_in;
-use crate::transfers::StreamCall;
 use std::alloc::{AllocError, Global};
 use std::marker::Model;
-use wasm_store::Vessel;
 
 /// The most bytes of a reply.
 pub const MOST_REPLY_BYTES: u32 = 65_536;
-
-/// The most iovecs of a call.
-pub const MOST_IOVECS: u32 = 1_024;
 
 /// The body of a request, how many of its bytes have been read, and what has been written for the reply: the standard input and the standard output of a running function.
 ///
@@ -23,8 +14,6 @@ pub struct Streams {
     body: Vec<u8>,
     position: u32,
     reply: Vec<u8>,
-    // The iovecs of a call that may overwrite their array. No call reads what an earlier one left there.
-    iovecs: Vec<Iovec>,
 }
 
 impl Drop for Streams {
@@ -33,7 +22,6 @@ impl Drop for Streams {
             body: _,
             position: _,
             reply: _,
-            iovecs: _,
         } = self;
     }
 }
@@ -46,7 +34,7 @@ impl Model for Streams {
 
     ghost view = { λ streams. record { body = streams.body.items; position = streams.position; reply = streams.reply.items } };
 
-    ghost invariant = { λ streams. (streams.position ≤ vec_len streams.body) × (vec_len streams.body ≤ 2 ^ 20) × (vec_len streams.reply ≤ 65536) × (65536 ≤ vec_capacity streams.reply) × (1024 ≤ vec_capacity streams.iovecs) };
+    ghost invariant = { λ streams. (streams.position ≤ vec_len streams.body) × (vec_len streams.body ≤ 2 ^ 20) × (vec_len streams.reply ≤ 65536) × (65536 ≤ vec_capacity streams.reply) };
 }
 
 /// The bytes of a reply, at most 65,536. They cannot be cloned.
@@ -91,15 +79,10 @@ impl Streams {
             Ok(reply) => reply,
             Err(fault) => return Err((body, fault)),
         };
-        let iovecs = match Vec::with_capacity(alloc, MOST_IOVECS as usize) {
-            Ok(iovecs) => iovecs,
-            Err(fault) => return Err((body, fault)),
-        };
         Ok(Streams {
             body,
             position: 0,
             reply,
-            iovecs,
         })
     }
 
@@ -111,7 +94,6 @@ impl Streams {
             body: _,
             position: _,
             reply: bytes,
-            iovecs: _,
         } = self;
         Reply { bytes }
     }
@@ -159,23 +141,5 @@ impl Streams {
         ensures { self.new ≡ record self.old { position = self.old.position + count } }
     {
         self.position += count;
-    }
-
-    /// Lays the next bytes of the body in the buffers of a call, all of whose iovecs are read first.
-    #[cold]
-    #[inline(never)]
-    pub(crate) fn scatter_saved(&mut self, call: StreamCall, vessel: &mut Vessel, count: u32)
-        requires few { call.count ≤ 1024 }
-        requires reaches { reaches vessel.old.memory (transfer_for call) ≡ true }
-        requires bytes { count ≤ length (drop self.old.position self.old.body) }
-        ensures vessel { vessel.new ≡ record vessel.old { memory = scattered vessel.old.memory (listed vessel.old.memory (transfer_for call)) (take count (drop self.old.position self.old.body)) } }
-        ensures size { length vessel.new.memory ≡ length vessel.old.memory }
-        ensures same { self.new ≡ self.old }
-    {
-        self.iovecs.clear();
-        call.save(vessel, &mut self.iovecs);
-        let (_, unread) = self.body.split_at(self.position as usize);
-        let (bytes, _) = unread.split_at(count as usize);
-        scatter_in(vessel, self.iovecs.as_slice(), bytes);
     }
 }

@@ -5,8 +5,8 @@ ghost use Rattle.wasi_calls.specs.Answers.{Moves};
 ghost use Rattle.wasi_calls.specs.Transfers.{transfer_for, Surveyed, IsWriteCheck};
 
 use crate::errnos::{BAD_FILE_DESCRIPTOR, FAULT, INVALID_ARGUMENT, SUCCESS, TOO_LARGE};
-use crate::iovecs::{Iovec, Survey};
-use crate::streams::{MOST_IOVECS, MOST_REPLY_BYTES, Streams};
+use crate::iovecs::{Iovec, MOST_IOVECS, Survey};
+use crate::streams::{MOST_REPLY_BYTES, Streams};
 use crate::transfers::{Done, StreamCall, price_of_moving};
 use wasm_store::Vessel;
 

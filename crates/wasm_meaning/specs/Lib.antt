@@ -1,3 +1,4 @@
+pub mod BulkMemory
 pub mod Bytes
 pub mod Control
 pub mod Effects

@@ -2,7 +2,7 @@
 use Rattle.std.proofs.Common.{◌≡◌, ℕ, ◌+◌, ◌-◌, ◌*◌, ◌/◌, ◌≤◌, List, ◌++◌, length, take, drop, refl, sym, ap, subst, ◌∙◌, arith, length-append}
 use Rattle.std.proofs.Math.Seq.{take-add, take-length, take-append-add, drop-append-add}
 use Rattle.std.proofs.lemmas.List.{take-append-le, drop-append-le, take-append-drop, length-drop, length-replicate, length-take-le, take-take, drop-take, drop-drop, take-replicate, drop-replicate, replicate-append-replicate}
-use Rattle.wasm_meaning.specs.Bytes.{page, zeros, with_bytes, size_of}
+use Rattle.wasm_meaning.specs.Bytes.{page, zeros, bytes_at, with_bytes, size_of}
 use Rattle.wasm_store.specs.Memory.{Memory, Laid, strip_of, memory_of, IsHeld}
 
 take_past : (n k : ℕ) (xs ys : List ℕ) → n ≡ length xs + k → take n (xs ++ ys) ≡ xs ++ take k ys
@@ -25,6 +25,14 @@ pub length-written : (bytes now : List ℕ) (pages at : ℕ) (few : List ℕ) (s
 length-written bytes now pages at few seen same fits written =
     let there : at + length few ≤ length bytes = subst (λ (room : Laid). at + length few ≤ length room.bytes) (sym same) fits in
     ap length written ∙ length-with_bytes bytes at few there
+
+-- so many bytes that lie there are so many
+pub length-bytes_at : (bytes : List ℕ) (from count : ℕ) → from + count ≤ length bytes → length (bytes_at bytes from count) ≡ count
+length-bytes_at bytes from count fits = length-take-le count (drop from bytes) (omega (arith, length-drop from bytes, fits))
+
+pub length-run_at : (bytes : List ℕ) (pages from count : ℕ) (seen : Laid) → record { bytes = bytes; pages = pages } ≡ seen → from + count ≤ length seen.bytes → length (bytes_at bytes from count) ≡ count
+length-run_at bytes pages from count seen same fits =
+    length-bytes_at bytes from count (subst (λ (room : Laid). from + count ≤ length room.bytes) (sym same) fits)
 
 -- a write within the part in use is a write to that part
 take-with_bytes : (used : ℕ) (strip : List ℕ) (at : ℕ) (bytes : List ℕ) → at + length bytes ≤ used → used ≤ length strip → take used (with_bytes strip at bytes) ≡ with_bytes (take used strip) at bytes
@@ -82,6 +90,25 @@ memory-with_bytes used room after at bytes seen written same fits held =
     ap (memory_of used) written
     ∙ ap (λ (xs : List ℕ). record { bytes = xs; pages = room.pages }) (take-with_bytes used room.bytes at bytes within held.within)
     ∙ ap (λ (m : Memory). record m { bytes = with_bytes m.bytes at bytes }) same
+
+-- a run within the part in use is one of that part
+run-within : (used : ℕ) (strip : List ℕ) (from count : ℕ) → from + count ≤ used → bytes_at (take used strip) from count ≡ bytes_at strip from count
+run-within used strip from count fits =
+    let more : used ≡ from + (used - from) = omega (arith, fits) in
+    ap (λ (n : ℕ). take count (drop from (take n strip))) more
+    ∙ ap (take count) (drop-take from (used - from) strip)
+    ∙ take-take count (used - from) (drop from strip) (omega (arith, fits))
+
+-- what a move within the memory leaves of it
+pub memory_moved : (used : ℕ) (room after : Laid) (to from count : ℕ) (seen : Memory) → after ≡ holding room (with_bytes room.bytes to (bytes_at room.bytes from count)) → memory_of used room ≡ seen → from + count ≤ length seen.bytes → to + count ≤ length seen.bytes → IsHeld used room → memory_of used after ≡ record seen { bytes = with_bytes seen.bytes to (bytes_at seen.bytes from count) }
+memory_moved used room after to from count seen moved same read write held =
+    let inside : from + count ≤ length (take used room.bytes) = subst (λ (m : Memory). from + count ≤ length m.bytes) (sym same) read in
+    let within : from + count ≤ used = omega (arith, inside, length-used used room held) in
+    let many = length-bytes_at room.bytes from count (omega (arith, within, held.within)) in
+    let run : bytes_at room.bytes from count ≡ bytes_at seen.bytes from count =
+    sym (run-within used room.bytes from count within) ∙ ap (λ (m : Memory). bytes_at m.bytes from count) same in
+    memory-with_bytes used room after to (bytes_at room.bytes from count) seen moved same (omega (arith, many, write)) held
+    ∙ ap (λ (xs : List ℕ). record seen { bytes = with_bytes seen.bytes to xs }) run
 
 -- more zeros, until there are at least so many bytes
 abbrev pub reached : (count : ℕ) → List ℕ → List ℕ

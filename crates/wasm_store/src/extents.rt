@@ -1,10 +1,11 @@
 //! Room for whole pages, of which no more is touched than was ever used.
-ghost use Rattle.std.specs.Prelude.{◌≡◌, ℕ, ◌-◌, ◌*◌, ◌/◌, ◌≤◌, ◌+◌, ◌<◌, ◌++◌, [], length, take, drop, vec_capacity, IfOk};
-ghost use Rattle.wasm_meaning.specs.Bytes.{page, zeros, with_bytes};
+ghost use Rattle.std.specs.Prelude.{◌≡◌, ℕ, ◌-◌, ◌*◌, ◌/◌, ◌≤◌, ◌+◌, ◌<◌, ◌++◌, [], length, take, drop, replicate, vec_capacity, IfOk};
+ghost use Rattle.wasm_meaning.specs.Bytes.{page, zeros, bytes_at, with_bytes};
 ghost use Rattle.wasm_store.specs.Marks.{written};
 ghost use Rattle.wasm_store.specs.Memory.{Laid};
 
 use crate::marks::{BLOCKS, count_set, mark_few, mark_run, rinse_pages};
+use crate::runs::{fill_run, move_run};
 use std::alloc::{AllocError, Global};
 use std::marker::Model;
 
@@ -115,6 +116,27 @@ impl Extent {
         let _pages = self.pages;
         mark_few(&mut self.marks, at, N);
         put_few(&mut self.bytes, used, at, bytes);
+    }
+
+    /// Copies so many bytes from one place on to another, all of which are read before any is written, and marks the blocks that they are written to.
+    pub fn copy_within(&mut self, to: usize, from: usize, count: usize)
+        requires read { from + count ≤ length self.old.bytes }
+        requires written { to + count ≤ length self.old.bytes }
+        ensures { self.new ≡ record self.old { bytes = with_bytes self.old.bytes to (bytes_at self.old.bytes from count) } }
+    {
+        let _pages = self.pages;
+        mark_run(&mut self.marks, to, count);
+        move_run(&mut self.bytes, to, from, count);
+    }
+
+    /// Lays a byte so many times from a place on, and marks the blocks.
+    pub fn fill(&mut self, at: usize, byte: u8, count: usize)
+        requires { at + count ≤ length self.old.bytes }
+        ensures { self.new ≡ record self.old { bytes = with_bytes self.old.bytes at (replicate count byte) } }
+    {
+        let _pages = self.pages;
+        mark_run(&mut self.marks, at, count);
+        fill_run(&mut self.bytes, at, byte, count);
     }
 
     /// Makes the first pages zero: of their blocks it writes those that are marked, and takes their marks away. All bytes stay laid down.

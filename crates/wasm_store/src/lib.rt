@@ -12,6 +12,7 @@ pub mod laws;
 mod linear_memory;
 mod marks;
 mod reserved;
+mod runs;
 mod stacks;
 mod strips;
 mod vessel;

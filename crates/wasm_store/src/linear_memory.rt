@@ -1,5 +1,6 @@
 //! A linear memory: the part of a strip that is in use.
-ghost use Rattle.std.specs.Prelude.{◌≡◌, ℕ, ◌+◌, ◌-◌, ◌*◌, ◌/◌, ◌^◌, ◌<◌, ◌≤◌, ◌++◌, [], length, if◌then◌else◌, option_map, unwrap_or, IfSome, nat_le, Some, None};
+ghost use Rattle.std.specs.Prelude.{◌≡◌, ℕ, ◌+◌, ◌-◌, ◌*◌, ◌/◌, ◌^◌, ◌<◌, ◌≤◌, ◌++◌, ◌&&◌, [], length, replicate, if◌then◌else◌, option_map, unwrap_or, IfSome, nat_le, Some, None};
+ghost use Rattle.wasm_meaning.specs.BulkMemory.{copied, filled};
 ghost use Rattle.wasm_meaning.specs.Bytes.{page, zeros, lies_in, bytes_at, with_bytes, loaded, stored, size_of, grown};
 ghost use Rattle.wasm_store.specs.Marks.{written};
 ghost use Rattle.wasm_store.specs.Memory.{IsWidth, laid};
@@ -153,7 +154,40 @@ impl LinearMemory {
     {
         match place_in(self.bytes(), at, bytes.len()) {
             Some(place) => {
-                self.copy_within(place, bytes);
+                self.lay_within(place, bytes);
+                true
+            }
+            None => false,
+        }
+    }
+
+    /// Copies so many bytes from one place on to another, all of which are read before any is written, and answers whether both ranges lie within the memory.
+    pub fn copy_within(&mut self, to: u64, from: u64, count: u64) -> bool
+        ensures answer { result ≡ (lies_in self.old.bytes from count && lies_in self.old.bytes to count) }
+        ensures bytes { self.new ≡ record self.old { bytes = unwrap_or (copied self.old.bytes to from count) self.old.bytes } }
+        ensures size { length self.new.bytes ≡ length self.old.bytes }
+    {
+        let count = count as usize;
+        let Some(source) = place_in(self.bytes(), from, count) else {
+            return false;
+        };
+        let Some(place) = place_in(self.bytes(), to, count) else {
+            return false;
+        };
+        self.move_within(place, source, count);
+        true
+    }
+
+    /// Lays a byte so many times from a place on, and answers whether they lie within the memory.
+    pub fn fill(&mut self, at: u64, byte: u8, count: u64) -> bool
+        ensures answer { result ≡ lies_in self.old.bytes at count }
+        ensures bytes { self.new ≡ record self.old { bytes = unwrap_or (filled self.old.bytes at byte count) self.old.bytes } }
+        ensures size { length self.new.bytes ≡ length self.old.bytes }
+    {
+        let count = count as usize;
+        match place_in(self.bytes(), at, count) {
+            Some(place) => {
+                self.fill_within(place, byte, count);
                 true
             }
             None => false,
@@ -210,13 +244,32 @@ impl LinearMemory {
         self.extent.lay_few(used, at, bytes);
     }
 
-    fn copy_within(&mut self, at: usize, bytes: &[u8])
+    fn lay_within(&mut self, at: usize, bytes: &[u8])
         requires { at + length bytes.now ≤ length self.old.bytes }
         ensures bytes { self.new ≡ record self.old { bytes = with_bytes self.old.bytes at bytes.now } }
         ensures size { length self.new.bytes ≡ length self.old.bytes }
     {
         let _used = self.size;
         self.extent.lay(at, bytes);
+    }
+
+    fn move_within(&mut self, to: usize, from: usize, count: usize)
+        requires read { from + count ≤ length self.old.bytes }
+        requires written { to + count ≤ length self.old.bytes }
+        ensures bytes { self.new ≡ record self.old { bytes = with_bytes self.old.bytes to (bytes_at self.old.bytes from count) } }
+        ensures size { length self.new.bytes ≡ length self.old.bytes }
+    {
+        let _used = self.size;
+        self.extent.copy_within(to, from, count);
+    }
+
+    fn fill_within(&mut self, at: usize, byte: u8, count: usize)
+        requires { at + count ≤ length self.old.bytes }
+        ensures bytes { self.new ≡ record self.old { bytes = with_bytes self.old.bytes at (replicate count byte) } }
+        ensures size { length self.new.bytes ≡ length self.old.bytes }
+    {
+        let _used = self.size;
+        self.extent.fill(at, byte, count);
     }
 
     fn grow_within(&mut self, by: u32)

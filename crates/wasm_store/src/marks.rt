@@ -3,6 +3,8 @@ ghost use Rattle.std.specs.Prelude.{◌≡◌, ℕ, ◌+◌, ◌-◌, ◌*◌, �
 ghost use Rattle.wasm_meaning.specs.Bytes.{zeros, with_bytes};
 ghost use Rattle.wasm_store.specs.Marks.{IsTold, Covers, swept};
 
+use crate::runs::fill_run;
+
 /// The size of a block in bytes.
 const BLOCK: usize = 4_096;
 
@@ -123,26 +125,8 @@ fn rinse_block(bytes: &mut Vec<u8>, marks: &mut Vec<bool>, block: usize)
     let written = marks[block];
     marks[block] = false;
     if written {
-        wipe_run(bytes, block * BLOCK, BLOCK);
+        fill_run(bytes, block * BLOCK, 0, BLOCK);
     }
-}
-
-// Makes so many bytes from a place on zero.
-fn wipe_run(bytes: &mut Vec<u8>, at: usize, count: usize)
-    requires { at + count ≤ length bytes.old.items }
-    ensures bytes { bytes.new.items ≡ with_bytes bytes.old.items at (zeros count) }
-    ensures room { vec_capacity bytes.new ≡ vec_capacity bytes.old }
-{
-    let (_, rest) = bytes.split_at_mut(at);
-    let (there, _) = rest.split_at_mut(count);
-    wipe(there);
-}
-
-// Makes all bytes zero.
-fn wipe(bytes: &mut [u8])
-    ensures { bytes.new ≡ zeros (length bytes.old) }
-{
-    bytes.fill(0);
 }
 
 // Whether any of so many marks from one on is set.

@@ -1,5 +1,6 @@
 //! All that a running function has.
-ghost use Rattle.std.specs.Prelude.{◌≡◌, ℕ, ◌+◌, ◌-◌, ◌*◌, ◌/◌, ◌^◌, ◌<◌, ◌≤◌, ◌++◌, [], ◌∷◌, length, drop, reverse, replicate, slice_get, slice_set, nat_le, if◌then◌else◌, unwrap_or, option_to_list, IfSome, IfOk, IfErr, Some, None};
+ghost use Rattle.std.specs.Prelude.{◌≡◌, ℕ, ◌+◌, ◌-◌, ◌*◌, ◌/◌, ◌^◌, ◌<◌, ◌≤◌, ◌++◌, ◌&&◌, [], ◌∷◌, length, drop, reverse, replicate, slice_get, slice_set, nat_le, if◌then◌else◌, unwrap_or, option_to_list, IfSome, IfOk, IfErr, Some, None};
+ghost use Rattle.wasm_meaning.specs.BulkMemory.{copied, filled};
 ghost use Rattle.wasm_meaning.specs.Bytes.{page, zeros, lies_in, bytes_at, loaded, stored, size_of, grown};
 ghost use Rattle.wasm_store.specs.Marks.{written};
 ghost use Rattle.wasm_store.specs.Memory.{IsWidth, laid};
@@ -210,6 +211,24 @@ impl Vessel {
         ensures bytes { into.new ≡ (if lies_in self.now.memory at (length into.old) then bytes_at self.now.memory at (length into.old) else into.old) }
     {
         self.memory.copy_out(at, into)
+    }
+
+    /// Copies so many bytes from one place on to another, all of which are read before any is written, and answers whether both ranges lie within the memory (WebAssembly Core 2.0, section 4.4.7).
+    pub fn copy_within(&mut self, to: u64, from: u64, count: u64) -> bool
+        ensures answer { result ≡ (lies_in self.old.memory from count && lies_in self.old.memory to count) }
+        ensures memory { self.new ≡ record self.old { memory = unwrap_or (copied self.old.memory to from count) self.old.memory } }
+        ensures size { length self.new.memory ≡ length self.old.memory }
+    {
+        self.memory.copy_within(to, from, count)
+    }
+
+    /// Lays a byte so many times from a place on, and answers whether they lie within the memory (WebAssembly Core 2.0, section 4.4.7).
+    pub fn fill(&mut self, at: u64, byte: u8, count: u64) -> bool
+        ensures answer { result ≡ lies_in self.old.memory at count }
+        ensures memory { self.new ≡ record self.old { memory = unwrap_or (filled self.old.memory at byte count) self.old.memory } }
+        ensures size { length self.new.memory ≡ length self.old.memory }
+    {
+        self.memory.fill(at, byte, count)
     }
 }
 

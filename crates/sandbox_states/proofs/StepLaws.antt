@@ -15,7 +15,8 @@ use Rattle.wasm_states.specs.HostCalls.{CanCall, Calls, IsHost, effect_of}
 use Rattle.wasm_states.specs.Running.{Running, Resting, StandsFor}
 use Rattle.wasm_states.specs.Steps.{item, IsOver, RunsOut, Reaches as StepReaches, Pays, Lacks}
 use Rattle.wasm_step.specs.Asking.{host_next}
-use Rattle.wasm_step.specs.Means.{Costs, IsFree}
+use Rattle.wasm_step.specs.Means.{Costs, IsFree, IsHeld}
+use Rattle.wasm_step.specs.Prices.{price_next}
 use Rattle.wasi_calls.proofs.HostRuns.{runs_as}
 use Rattle.wasi_calls.specs.Answers.{HostAnswers, GaveErrno, HasExited, FallsShort}
 use Rattle.wasi_calls.specs.Laws.{GoesOn as HostGoesOn, IsExit, IsShort, RunsAs}
@@ -154,18 +155,16 @@ pub lacks_closes : (p : Program) (w : Pending) (left : ℕ) (s : Streams) → La
 lacks_closes p w left s lacks same =
     subst (λ (x : Streams). ClosesAt p w left ending.Spent (0 ∷ []) x) same (spent_closes p w left w.state.store.streams lacks.lacks)
 
--- the host is asked, and the vessel is the same
-pub asked_there : (p : Program) (v v' : View) (call : HostCall) → v' ≡ v → host_next p v ≡ Some call.name → host_next p v' ≢ None
-asked_there p v v' call same asks none =
+-- the host is asked, and the vessel is the same: whatever is left, the operator is held
+pub asked_held : (p : Program) (v v' : View) (call : HostCall) → v' ≡ v → host_next p v ≡ Some call.name → (left : ℕ) → IsHeld p v' left
+asked_held p v v' call same asks left =
+    inr (inl (λ none.
     let here : host_next p v ≡ None = ap (λ (x : View). host_next p x) (sym same) ∙ none in
-    let bad : ⊥ = cc in absurd bad
+    let bad : ⊥ = cc in absurd bad))
 
--- nothing is left, or the host is asked: it is spent only where nothing is left
-pub unpaid_closes
-    : (p : Program) (w : Pending) (v : View) (left : ℕ) (s : Streams) → (left ≡ 0) ⊎ (host_next p v ≢ None) → host_next p v ≡ None → Lacks p w 0 → w.state.store.streams ≡ s
-    → ClosesAt p w left ending.Spent (0 ∷ []) s
-unpaid_closes p w v left s (inl none) quiet lacks same = lacks_closes p w left s (subst (λ (l : ℕ). Lacks p w l) (sym none) lacks) same
-unpaid_closes p w v left s (inr asked) quiet lacks same = absurd (asked quiet)
+-- so it is where more than one unit is too little
+pub short_held : (p : Program) (v v' : View) (rest : ℕ) → v' ≡ v → 1 ≤ rest → rest < price_next p v → (left : ℕ) → IsHeld p v' left
+short_held p v v' rest same some less left = subst (λ (x : View). IsHeld p x left) (sym same) (inr (inr (omega (arith, some, less))))
 
 -- an answer about the vessel as it was, at the vessel that is the same
 pub advances_from

@@ -1,5 +1,5 @@
 -- What a part of a run does, whatever is pending: what it pays, and what is pending then, or how it is over.
-use Rattle.std.specs.Prelude.{◌≡◌, ◌≢◌, ◌⊎◌, None, ℕ, ◌+◌, ◌-◌, ◌≤◌, ◌<◌, ◌^◌, List, [], ◌∷◌, ◌++◌, sum}
+use Rattle.std.specs.Prelude.{◌≡◌, ◌⊎◌, ℕ, ◌+◌, ◌-◌, ◌≤◌, ◌<◌, ◌^◌, List, [], ◌∷◌, ◌++◌, sum}
 use Rattle.wasm_meaning.specs.HostCalls.{Streams}
 use Rattle.wasm_meaning.specs.Pending.{Pending, onward}
 use Rattle.wasm_meaning.specs.Programs.{Program, instance_of}
@@ -8,7 +8,7 @@ use Rattle.wasm_meaning.specs.Turns.{turns, IsShortest}
 use Rattle.wasm_store.specs.View.{View}
 use Rattle.wasm_states.specs.Holding.{Holds, IsState, free_moves}
 use Rattle.wasm_states.specs.Steps.{item, Pays}
-use Rattle.wasm_step.specs.Asking.{host_next}
+use Rattle.wasm_step.specs.Means.{IsHeld}
 use Rattle.sandbox_states.specs.Rests.{ArePaid}
 use Rattle.sandbox_states.specs.declared.runs.Ending.{Ending}
 use Rattle.sandbox_states.specs.declared.runs.Ending.TheVariants as ending
@@ -96,7 +96,7 @@ Parts due p w left v' streams' (progress.Paid got) = Paying due p w v' streams' 
 Parts due p w left v' streams' progress.Free = Path p w [] v' streams'
 Parts due p w left v' streams' (progress.Over end got) = EndsIn due p w left streams' end got
 
--- operators of the function alone: they stop where all is paid out or the host is asked, or the run is over whatever more is left
+-- operators of the function alone: they stop where all is paid out, the host is asked or the next one costs more than the rest, or the run is over whatever more is left
 pub record BreaksOff (most : ℕ) (p : Program) (w : Pending) (end : Ending) (got : ℕ) : Type 0 where
   pub before : ℕ
   pub vessel : View
@@ -109,12 +109,12 @@ pub record BreaksOff (most : ℕ) (p : Program) (w : Pending) (end : Ending) (go
 
 abbrev pub Pauses : (most : ℕ) → Program → (w : Pending) → (v' : View) → Pause → Type 0
 Pauses most p w v' pause.Stopped = Paying most p w v' w.state.store.streams most
-Pauses most p w v' (pause.Asked got) = Paying most p w v' w.state.store.streams got
+Pauses most p w v' (pause.Held got) = Paying most p w v' w.state.store.streams got
 Pauses most p w v' (pause.Over end got) = BreaksOff most p w end got
 
 abbrev pub KeepsPause : Program → (most : ℕ) → (v v' : View) → Pause → Type 0
 KeepsPause p most v v' pause.Stopped = IsState p v'
-KeepsPause p most v v' (pause.Asked got) = (got ≤ most) × IsState p v' × (got ≡ 0 → free_moves v' ≤ free_moves v) × (host_next p v' ≢ None)
+KeepsPause p most v v' (pause.Held got) = (got ≤ most) × IsState p v' × (got ≡ 0 → free_moves v' ≤ free_moves v) × ((left : ℕ) → IsHeld p v' left)
 KeepsPause p most v v' (pause.Over end got) = got ≤ most
 
 -- the quantum is reached

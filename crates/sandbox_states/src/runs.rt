@@ -1,15 +1,15 @@
 //! The operators of a turn.
-ghost use Rattle.std.specs.Prelude.{◌≡◌, ◌≢◌, ◌⊎◌, None, ◌+◌, ◌-◌, ◌*◌, ◌^◌, ◌<◌, ◌≤◌};
+ghost use Rattle.std.specs.Prelude.{◌≡◌, ◌+◌, ◌-◌, ◌*◌, ◌^◌, ◌<◌, ◌≤◌};
 ghost use Rattle.sandbox_states.specs.Paths.{Advances, Keeps, KeepsGroup, KeepsPause, KeepsBehind, Parts, Pauses, Quantum, LiesBehind, Stretches};
 ghost use Rattle.wasm_meaning.specs.Pending.{Pending};
 ghost use Rattle.wasm_states.specs.Holding.{Holds, IsState};
 ghost use Rattle.wasm_states.specs.HostCalls.{IsHost};
-ghost use Rattle.wasm_step.specs.Asking.{host_next};
+ghost use Rattle.wasm_step.specs.Means.{IsHeld};
 
 use wasi_calls::{HostStep, Streams, host};
 use wasm_instance::Program;
 use wasm_ops::{HostCall, Trap};
-use wasm_step::{Step, step};
+use wasm_step::{Step, step, step_held};
 use wasm_store::Vessel;
 
 /// How a run is over.
@@ -47,8 +47,8 @@ pub(crate) enum Pause {
     /// All is paid out.
     Stopped,
 
-    /// The next operator calls a function of the host, after so many units.
-    Asked { paid: u64 },
+    /// The next operator calls a function of the host, or costs more than what is due, after so many units.
+    Held { paid: u64 },
 
     /// The run is over, after so many units.
     Over { end: Ending, paid: u64 },
@@ -103,19 +103,18 @@ fn carry_out(
     }
 }
 
-// One step, with a call of the host carried out, where nothing is left or the host is asked.
-// The 0 is written out: the arms of all other operators are then in no code but that of the loop below, and inside of it.
+// One step, with a call of the host carried out, out of all that is left, where the loop below can go no further.
 #[inline(never)]
 fn advance(program: &Program, vessel: &mut Vessel, streams: &mut Streams, left: u64) -> Progress
     requires state { IsState program.now vessel.old }
-    requires unpaid { (left ≡ 0) ⊎ (host_next program.now vessel.old ≢ None) }
+    requires held { IsHeld program.now vessel.old left }
     ensures keeps { Keeps program.now left vessel.old vessel.new result }
     ensures means { (w : Pending) → Holds program.now vessel.old w → w.state.store.streams ≡ streams.old → Advances program.now w left vessel.new streams.new result }
     ensures pages { vessel.new.pages ≡ vessel.old.pages }
     ensures body { streams.new.body ≡ streams.old.body }
 {
-    match step(program, vessel, 0) {
-        Step::Went(_) => unreachable!(),
+    match step_held(program, vessel, left) {
+        Step::Went(price) => Progress::Paid(price),
         Step::Free => Progress::Free,
         Step::Host(call) => carry_out(program, vessel, streams, call, left),
         Step::Trapped { trap, price } => Progress::Over {
@@ -133,7 +132,7 @@ fn advance(program: &Program, vessel: &mut Vessel, streams: &mut Streams, left: 
     }
 }
 
-// Runs operators until they have cost so much, or the host is asked.
+// Runs operators until they have cost so much, the host is asked, or the next one costs more than the rest.
 #[inline(never)]
 fn run_operators(program: &Program, vessel: &mut Vessel, most: u64) -> Pause
     requires state { IsState program.now vessel.old }
@@ -156,8 +155,8 @@ fn run_operators(program: &Program, vessel: &mut Vessel, most: u64) -> Pause
                 }
             }
             Step::Free => {}
-            Step::Host(_) => return Pause::Asked { paid: most - rest },
-            Step::Short => unreachable!(),
+            Step::Host(_) => return Pause::Held { paid: most - rest },
+            Step::Short => return Pause::Held { paid: most - rest },
             Step::Ended => return Pause::Over {
                 end: Ending::Fell,
                 paid: most - rest,
@@ -191,7 +190,7 @@ fn run_part(
     let most = left.min(due);
     match run_operators(program, vessel, most) {
         Pause::Stopped => Progress::Paid(most),
-        Pause::Asked { paid } => {
+        Pause::Held { paid } => {
             if paid == 0 {
                 advance(program, vessel, streams, left)
             } else {

@@ -17,7 +17,7 @@ use Rattle.wasm_code.specs.declared.items.Item.TheVariants as item
 use Rattle.wasm_code.specs.declared.forms.Form.{Form}
 use Rattle.wasm_code.specs.declared.forms.Form.TheVariants.{Operator, Labels, Prefixed, Opens, Else, End}
 use Rattle.wasm_code.specs.declared.forms.Layout.{Layout}
-use Rattle.wasm_code.specs.declared.forms.Layout.TheVariants.{Bare, Index, Load, Store, Reserved, I32Const, I64Const, IndirectCall, Float, Unknown}
+use Rattle.wasm_code.specs.declared.forms.Layout.TheVariants.{Bare, Index, Load, Store, Reserved, ReservedTwice, I32Const, I64Const, IndirectCall, Float, Unknown}
 use Rattle.wasm_code.specs.declared.forms.Indexed.{Indexed}
 use Rattle.wasm_code.specs.declared.forms.Indexed.TheVariants as indexed
 use Rattle.wasm_code.specs.Forms.{Rows, control_rows, variable_rows, load_rows, store_rows, look_up, row_of, is_float_op, form_with, form_of, with_index, behind_prefix}
@@ -62,6 +62,8 @@ layout_bytes (Index kind) before operator after are reads = index_bytes (with_in
 layout_bytes (Load access) before operator after are reads = address_bytes (op.Load access) before operator after are reads
 layout_bytes (Store access) before operator after are reads = address_bytes (op.Store access) before operator after are reads
 layout_bytes (Reserved o) before operator after are reads = zero_bytes o before operator after are reads
+layout_bytes (ReservedTwice o) before operator after are reads =
+    zero_bytes reads.0 reads.1 operator after (zero_bytes o before reads.0 reads.1 are reads.2) reads.3
 layout_bytes I32Const before operator after are reads = number_bytes Signed 32 before reads.0 after are reads.1
 layout_bytes I64Const before operator after are reads = number_bytes Signed 64 before reads.0 after are reads.1
 layout_bytes IndirectCall before operator after are reads =
@@ -109,6 +111,7 @@ IsFormedLayout (Bare o) = IsAnyOperator o
 IsFormedLayout (Load access) = IsAccess access
 IsFormedLayout (Store access) = IsAccess access × (access.signed ≡ false)
 IsFormedLayout (Reserved o) = IsAnyOperator o
+IsFormedLayout (ReservedTwice o) = IsAnyOperator o
 IsFormedLayout layout = Unit {0}
 
 abbrev IsFormed : Form → Type 0
@@ -220,7 +223,12 @@ chosen_layout true x y p q = p
 chosen_layout false x y p q = q
 
 prefix_formed : (code : ℕ) → IsFormedLayout (behind_prefix code)
-prefix_formed code = chosen_layout (nat_lt code 8) Float Unknown tt tt
+prefix_formed code =
+    let fill = if code == 11 then Reserved op.MemoryFill else Unknown in
+    let copy = if code == 10 then ReservedTwice op.MemoryCopy else fill in
+    chosen_layout (nat_lt code 8) Float copy tt
+    (chosen_layout (code == 10) (ReservedTwice op.MemoryCopy) fill (λ targets. tt)
+    (chosen_layout (code == 11) (Reserved op.MemoryFill) Unknown (λ targets. tt) tt))
 
 -- So is each operator that is read.
 
@@ -246,6 +254,8 @@ layout_formed (Index kind) targets before operator after are is reads =
 layout_formed (Load access) targets before operator after are is reads = same_formed targets operator (op.Load access reads.0 reads.3.0) reads.3.2 is
 layout_formed (Store access) targets before operator after are is reads = same_formed targets operator (op.Store access reads.0 reads.3.0) reads.3.2 is
 layout_formed (Reserved o) targets before operator after are is reads = same_formed targets operator o reads.3.1 (is targets)
+layout_formed (ReservedTwice o) targets before operator after are is reads =
+    same_formed targets operator reads.0 reads.3.3.1 (same_formed targets reads.0 o reads.2.3.1 (is targets))
 layout_formed I32Const targets before operator after are is reads =
     same_formed targets operator (op.ConstI32 reads.0) reads.2 (spelt_below Signed 32 before.left reads.0 after.left are reads.1.spelt)
 layout_formed I64Const targets before operator after are is reads =

@@ -15,7 +15,7 @@ use Rattle.wasm_code.specs.declared.items.Item.TheVariants as item
 use Rattle.wasm_code.specs.declared.forms.Form.{Form}
 use Rattle.wasm_code.specs.declared.forms.Form.TheVariants.{Operator, Labels, Prefixed, Opens, Else, End}
 use Rattle.wasm_code.specs.declared.forms.Layout.{Layout}
-use Rattle.wasm_code.specs.declared.forms.Layout.TheVariants.{Bare, Index, Load, Store, Reserved, I32Const, I64Const, IndirectCall, Float, Unknown}
+use Rattle.wasm_code.specs.declared.forms.Layout.TheVariants.{Bare, Index, Load, Store, Reserved, ReservedTwice, I32Const, I64Const, IndirectCall, Float, Unknown}
 use Rattle.wasm_code.specs.declared.forms.Indexed.{Indexed}
 use Rattle.wasm_code.specs.declared.forms.Indexed.TheVariants as indexed
 use Rattle.wasm_code.specs.Forms.{Rows, control_rows, variable_rows, load_rows, store_rows, look_up, row_of, is_float_op, form_with, form_of, with_index, behind_prefix}
@@ -68,6 +68,9 @@ layout_shorter (Index kind) before operator after reads = index_shorter (with_in
 layout_shorter (Load access) before operator after reads = address_shorter (op.Load access) before operator after reads
 layout_shorter (Store access) before operator after reads = address_shorter (op.Store access) before operator after reads
 layout_shorter (Reserved o) before operator after reads = zero_shorter o before operator after reads
+layout_shorter (ReservedTwice o) before operator after reads =
+    let shorter = zero_shorter o before reads.0 reads.1 reads.2 in
+    let further = zero_shorter reads.0 reads.1 operator after reads.3 in omega arith
 layout_shorter I32Const before operator after reads = let shorter = number_shorter Signed 32 before reads.0 after reads.1 in omega arith
 layout_shorter I64Const before operator after reads = let shorter = number_shorter Signed 64 before reads.0 after reads.1 in omega arith
 layout_shorter IndirectCall before operator after reads =
@@ -118,6 +121,7 @@ item_shorter depth targets before parsed after reads =
 abbrev LayoutIsPlain : Layout → Type 0
 LayoutIsPlain (Bare o) = IsPlain o
 LayoutIsPlain (Reserved o) = IsPlain o
+LayoutIsPlain (ReservedTwice o) = IsPlain o
 LayoutIsPlain layout = Unit {0}
 
 abbrev FormIsPlain : Form → Type 0
@@ -191,6 +195,8 @@ layout_plain (Index kind) before operator after is reads = same_plain operator (
 layout_plain (Load access) before operator after is reads = same_plain operator (op.Load access reads.0 reads.3.0) reads.3.2 refl
 layout_plain (Store access) before operator after is reads = same_plain operator (op.Store access reads.0 reads.3.0) reads.3.2 refl
 layout_plain (Reserved o) before operator after is reads = same_plain operator o reads.3.1 is
+layout_plain (ReservedTwice o) before operator after is reads =
+    same_plain operator reads.0 reads.3.3.1 (same_plain reads.0 o reads.2.3.1 is)
 layout_plain I32Const before operator after is reads = same_plain operator (op.ConstI32 reads.0) reads.2 refl
 layout_plain I64Const before operator after is reads = same_plain operator (op.ConstI64 reads.0) reads.2 refl
 layout_plain IndirectCall before operator after is reads = same_plain operator (op.CallIndirect reads.0) reads.3.3.1 refl
@@ -202,7 +208,12 @@ chosen_layout true x y p q = p
 chosen_layout false x y p q = q
 
 prefix_plain : (code : ℕ) → LayoutIsPlain (behind_prefix code)
-prefix_plain code = chosen_layout (nat_lt code 8) Float Unknown tt tt
+prefix_plain code =
+    let fill = if code == 11 then Reserved op.MemoryFill else Unknown in
+    let copy = if code == 10 then ReservedTwice op.MemoryCopy else fill in
+    chosen_layout (nat_lt code 8) Float copy tt
+    (chosen_layout (code == 10) (ReservedTwice op.MemoryCopy) fill refl
+    (chosen_layout (code == 11) (Reserved op.MemoryFill) Unknown refl tt))
 
 form_operator
     : (form : Form) (depth : ℕ) (targets : List ℕ) (before : Input) (parsed : Parsed) (after : Input) (o : Op)

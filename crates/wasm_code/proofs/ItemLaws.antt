@@ -16,11 +16,11 @@ use Rattle.wasm_code.specs.declared.items.Item.TheVariants as item
 use Rattle.wasm_code.specs.declared.forms.Form.{Form}
 use Rattle.wasm_code.specs.declared.forms.Form.TheVariants.{Operator, Labels, Prefixed, Opens, Else, End}
 use Rattle.wasm_code.specs.declared.forms.Layout.{Layout}
-use Rattle.wasm_code.specs.declared.forms.Layout.TheVariants.{Bare, Index, Load, Store, Reserved, I32Const, I64Const, IndirectCall, Float, Unknown}
+use Rattle.wasm_code.specs.declared.forms.Layout.TheVariants.{Bare, Index, Load, Store, Reserved, ReservedTwice, I32Const, I64Const, IndirectCall, Float, Unknown}
 use Rattle.wasm_code.specs.Forms.{form_of, with_index, behind_prefix}
 use Rattle.wasm_code.specs.Reading.{as_part, within, ReadsByte, LacksByte}
 use Rattle.wasm_code.specs.Types.{type_of, block_type_of, no_type, typed, as_from, ReadsAs, RefusesAs, ReadsType, RefusesType, type_from, ReadsBlockType, RefusesBlockType, block_type_from}
-use Rattle.wasm_code.specs.Layouts.{ReadsZero, RefusesZero, ReadsOnly, RefusesOnly, ReadsIndex, ReadsAddress, RefusesAddress, ReadsLayout, RefusesLayout, ReadsPrefixed, RefusesPrefixed, zeroed, zero_from, only_from, index_from, address_from, layout_from, prefixed_from}
+use Rattle.wasm_code.specs.Layouts.{ReadsZero, RefusesZero, ReadsZeros, RefusesZeros, ReadsOnly, RefusesOnly, ReadsIndex, ReadsAddress, RefusesAddress, ReadsLayout, RefusesLayout, ReadsPrefixed, RefusesPrefixed, zeroed, zero_from, zeros_from, only_from, index_from, address_from, layout_from, prefixed_from}
 use Rattle.wasm_code.specs.Items.{Parsed, ReadsLabels, AddsLabels, RefusesLabels, branch_table, ReadsForm, RefusesForm, ReadsItem, RefusesItem, labels_from, table_from, form_from, item_from}
 use Rattle.wasm_code.specs.Locals.{Group, RefusesGroup, ReadsGroups, written_out, AddsGroups, RefusesGroups, ReadsLocals, RefusesLocals, with_group, group_from, groups_from, locals_from}
 use Rattle.wasm_code.proofs.Decisions.{Decides, read_parts, read_same, fault_same, and_then_decides, told_decides, as_part_decides, within_decides, stands_decides, fails_decides, byte_decides, number_decides}
@@ -83,6 +83,14 @@ zero_decides o before =
     (λ byte there fault. (byte ≢ 0) × (fault ≡ fault_at refusal.Reserved before.at))
     (byte_decides before) (λ byte there reads. zeroed_at o before.at byte there (cases_eq byte 0))
 
+zeros_decides : (o : Op) (before : Input) → Decides Op (zeros_from o before) (ReadsZeros o before) (RefusesZeros o before)
+zeros_decides o before =
+    and_then_decides (zero_from o before) (λ first there. zero_from first there)
+    (ReadsZero o before) (RefusesZero before)
+    (λ first there operator after. ReadsZero first there operator after)
+    (λ first there fault. RefusesZero there fault)
+    (zero_decides o before) (λ first there reads. zero_decides first there)
+
 u32_decides : (before : Input) → Decides ℕ (number_from Unsigned 32 before) (ReadsNumber Unsigned 32 before) (RefusesNumber Unsigned 32 before)
 u32_decides before = number_decides Unsigned 32 before (omega arith)
 
@@ -115,6 +123,7 @@ layout_decides (Index kind) at before = index_decides (with_index kind) before
 layout_decides (Load access) at before = address_decides (op.Load access) before
 layout_decides (Store access) at before = address_decides (op.Store access) before
 layout_decides (Reserved o) at before = zero_decides o before
+layout_decides (ReservedTwice o) at before = zeros_decides o before
 layout_decides I32Const at before =
     as_part_decides op.ConstI32 (number_from Signed 32 before) (ReadsNumber Signed 32 before) (RefusesNumber Signed 32 before)
     (number_decides Signed 32 before (omega arith))

@@ -19,11 +19,11 @@ use Rattle.wasm_code.specs.declared.items.Item.TheVariants as item
 use Rattle.wasm_code.specs.declared.forms.Form.{Form}
 use Rattle.wasm_code.specs.declared.forms.Form.TheVariants.{Operator, Labels, Prefixed, Opens, Else, End}
 use Rattle.wasm_code.specs.declared.forms.Layout.{Layout}
-use Rattle.wasm_code.specs.declared.forms.Layout.TheVariants.{Bare, Index, Load, Store, Reserved, I32Const, I64Const, IndirectCall, Float, Unknown}
+use Rattle.wasm_code.specs.declared.forms.Layout.TheVariants.{Bare, Index, Load, Store, Reserved, ReservedTwice, I32Const, I64Const, IndirectCall, Float, Unknown}
 use Rattle.wasm_code.specs.Forms.{form_of, with_index, behind_prefix}
 use Rattle.wasm_code.specs.Reading.{Read, and_then, as_part, within}
 use Rattle.wasm_code.specs.Types.{type_of, block_type_of, typed, as_from, type_from, block_type_from}
-use Rattle.wasm_code.specs.Layouts.{zeroed, zero_from, only_from, index_from, address_from, layout_from, prefixed_from}
+use Rattle.wasm_code.specs.Layouts.{zeroed, zero_from, zeros_from, only_from, index_from, address_from, layout_from, prefixed_from}
 use Rattle.wasm_code.specs.Items.{Parsed, branch_table, ReadsItem, RefusesItem, labels_from, table_from, form_from, item_from}
 use Rattle.wasm_code.specs.Locals.{ReadsLocals, RefusesLocals, with_group, group_from, groups_from, locals_from}
 use Rattle.wasm_code.specs.Bodies.{Place, AreCut, beginning, first_place, RefusesNext, RefusesBody}
@@ -111,6 +111,11 @@ zero_stays o end before e =
     and_then_stays end (byte_from before) (λ byte after. zeroed o before.at byte after) (byte_stays end before e)
     (λ byte there same. zeroed_stays o end before.at byte there (omega arith) same)
 
+zeros_stays : (o : Op) (end : ℕ) (before : Input) → end_of before ≡ end → Stays end (zeros_from o before)
+zeros_stays o end before e =
+    and_then_stays end (zero_from o before) (λ first there. zero_from first there) (zero_stays o end before e)
+    (λ first there same. zero_stays first end there same)
+
 only_stays : (o : Op) (end : ℕ) (before : Input) → end_of before ≡ end → Stays end (only_from o before)
 only_stays o end before e =
     and_then_stays end (number_from Unsigned 32 before) (λ number after. zeroed o before.at number after) (u32_stays end before e)
@@ -131,6 +136,7 @@ layout_stays (Index kind) end at before under e = index_stays (with_index kind) 
 layout_stays (Load access) end at before under e = address_stays (op.Load access) end before e
 layout_stays (Store access) end at before under e = address_stays (op.Store access) end before e
 layout_stays (Reserved o) end at before under e = zero_stays o end before e
+layout_stays (ReservedTwice o) end at before under e = zeros_stays o end before e
 layout_stays I32Const end at before under e =
     as_part_stays end op.ConstI32 (number_from Signed 32 before) (number_stays Signed 32 end before (omega arith) e)
 layout_stays I64Const end at before under e =

@@ -12,7 +12,7 @@ use Rattle.wasm_code.specs.declared.items.Opener.TheVariants as opener
 use Rattle.wasm_code.specs.declared.forms.Form.{Form}
 use Rattle.wasm_code.specs.declared.forms.Form.TheVariants.{Operator, Labels, Prefixed, Opens, Else, End}
 use Rattle.wasm_code.specs.declared.forms.Layout.{Layout}
-use Rattle.wasm_code.specs.declared.forms.Layout.TheVariants.{Bare, Index, Load, Store, Reserved, I32Const, I64Const, IndirectCall, Float, Unknown}
+use Rattle.wasm_code.specs.declared.forms.Layout.TheVariants.{Bare, Index, Load, Store, Reserved, ReservedTwice, I32Const, I64Const, IndirectCall, Float, Unknown}
 use Rattle.wasm_code.specs.declared.forms.Indexed.{Indexed}
 use Rattle.wasm_code.specs.declared.forms.Indexed.TheVariants as indexed
 
@@ -129,9 +129,12 @@ form_with byte None = if is_float_op byte then Operator Float else row_of byte
 abbrev pub form_of : (byte : ℕ) → Form
 form_of byte = form_with byte (operation_of byte)
 
--- what stands behind the prefix and this number: eight conversions of floats, and no other operator that is known here
+-- what stands behind the prefix and this number: eight conversions of floats, two operators of memory, and no other that is known here
 abbrev pub behind_prefix : (code : ℕ) → Layout
-behind_prefix code = if nat_lt code 8 then Float else Unknown
+behind_prefix code =
+    if nat_lt code 8 then Float else (
+    if code == 10 then ReservedTwice op.MemoryCopy else (
+    if code == 11 then Reserved op.MemoryFill else Unknown))
 
 -- the operator with its index or label
 abbrev pub with_index : Indexed → ℕ → Op

@@ -10,7 +10,7 @@ use Rattle.wasm_ops.specs.NumberInput.{ReadsNumber, RefusesNumber, number_from}
 use Rattle.wasm_ops.specs.declared.faults.Refusal.TheVariants as refusal
 use Rattle.wasm_ops.specs.Refusals.{fault_at}
 use Rattle.wasm_code.specs.declared.forms.Layout.{Layout}
-use Rattle.wasm_code.specs.declared.forms.Layout.TheVariants.{Bare, Index, Load, Store, Reserved, I32Const, I64Const, IndirectCall, Float, Unknown}
+use Rattle.wasm_code.specs.declared.forms.Layout.TheVariants.{Bare, Index, Load, Store, Reserved, ReservedTwice, I32Const, I64Const, IndirectCall, Float, Unknown}
 use Rattle.wasm_code.specs.Forms.{with_index, behind_prefix}
 use Rattle.wasm_code.specs.Reading.{Read, and_then, as_part, ReadsByte, LacksByte}
 
@@ -24,6 +24,15 @@ abbrev pub RefusesZero : (before : Input) (fault : Fault) → Type 0
 RefusesZero before fault =
     LacksByte before fault
     ⊎ ((byte : ℕ) × (there : Input) × ReadsByte before byte there × ((byte ≢ 0) × (fault ≡ fault_at refusal.Reserved before.at)))
+
+-- two bytes 00, of an operator
+abbrev pub ReadsZeros : Op → (before : Input) (operator : Op) (after : Input) → Type 0
+ReadsZeros o before operator after =
+    (first : Op) × (there : Input) × ReadsZero o before first there × ReadsZero first there operator after
+
+abbrev pub RefusesZeros : Op → (before : Input) (fault : Fault) → Type 0
+RefusesZeros o before fault =
+    RefusesZero before fault ⊎ ((first : Op) × (there : Input) × ReadsZero o before first there × RefusesZero there fault)
 
 -- the number 0 in any spelling, of an operator: the index of the only table
 abbrev pub ReadsOnly : Op → (before : Input) (operator : Op) (after : Input) → Type 0
@@ -59,6 +68,7 @@ ReadsLayout (Index kind) before operator after = ReadsIndex (with_index kind) be
 ReadsLayout (Load access) before operator after = ReadsAddress (op.Load access) before operator after
 ReadsLayout (Store access) before operator after = ReadsAddress (op.Store access) before operator after
 ReadsLayout (Reserved o) before operator after = ReadsZero o before operator after
+ReadsLayout (ReservedTwice o) before operator after = ReadsZeros o before operator after
 ReadsLayout I32Const before operator after =
     (number : ℕ) × ReadsNumber Signed 32 before number after × (operator ≡ op.ConstI32 number)
 ReadsLayout I64Const before operator after =
@@ -75,6 +85,7 @@ RefusesLayout (Index kind) at before fault = RefusesNumber Unsigned 32 before fa
 RefusesLayout (Load access) at before fault = RefusesAddress before fault
 RefusesLayout (Store access) at before fault = RefusesAddress before fault
 RefusesLayout (Reserved o) at before fault = RefusesZero before fault
+RefusesLayout (ReservedTwice o) at before fault = RefusesZeros o before fault
 RefusesLayout I32Const at before fault = RefusesNumber Signed 32 before fault
 RefusesLayout I64Const at before fault = RefusesNumber Signed 64 before fault
 RefusesLayout IndirectCall at before fault =
@@ -101,6 +112,9 @@ zeroed o at found after = if found == 0 then Ok (o, after) else Err (fault_at re
 abbrev pub zero_from : Op → Input → Read Op
 zero_from o before = and_then (byte_from before) (λ byte after. zeroed o before.at byte after)
 
+abbrev pub zeros_from : Op → Input → Read Op
+zeros_from o before = and_then (zero_from o before) (λ first there. zero_from first there)
+
 abbrev pub only_from : Op → Input → Read Op
 only_from o before = and_then (number_from Unsigned 32 before) (λ number after. zeroed o before.at number after)
 
@@ -116,6 +130,7 @@ layout_from (Index kind) at before = index_from (with_index kind) before
 layout_from (Load access) at before = address_from (op.Load access) before
 layout_from (Store access) at before = address_from (op.Store access) before
 layout_from (Reserved o) at before = zero_from o before
+layout_from (ReservedTwice o) at before = zeros_from o before
 layout_from I32Const at before = as_part op.ConstI32 (number_from Signed 32 before)
 layout_from I64Const at before = as_part op.ConstI64 (number_from Signed 64 before)
 layout_from IndirectCall at before =

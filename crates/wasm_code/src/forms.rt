@@ -45,6 +45,9 @@ pub(crate) enum Layout {
     /// A byte that must be 00.
     Reserved(Op),
 
+    /// Two bytes that must be 00.
+    ReservedTwice(Op),
+
     /// A signed number of 32 bits, of `i32.const`.
     I32Const,
 
@@ -276,6 +279,8 @@ pub(crate) fn behind_prefix(code: u32) -> Layout
 {
     match code {
         0..=7 => Layout::Float,
+        10 => Layout::ReservedTwice(Op::MemoryCopy),
+        11 => Layout::Reserved(Op::MemoryFill),
         _ => Layout::Unknown,
     }
 }

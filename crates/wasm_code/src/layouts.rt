@@ -3,7 +3,7 @@ ghost use Rattle.std.specs.Prelude.{◌≡◌};
 ghost use Rattle.wasm_ops.specs.declared.operators.Op.TheVariants as op;
 ghost use Rattle.wasm_code.specs.Faults.{Tells};
 ghost use Rattle.wasm_code.specs.Forms.{with_index};
-ghost use Rattle.wasm_code.specs.Layouts.{zero_from, only_from, index_from, address_from, layout_from, prefixed_from};
+ghost use Rattle.wasm_code.specs.Layouts.{zero_from, zeros_from, only_from, index_from, address_from, layout_from, prefixed_from};
 
 use crate::forms::{Indexed, Layout, behind_prefix};
 use wasm_ops::{Access, Cursor, Fault, Op, Refusal};
@@ -18,6 +18,7 @@ pub(crate) fn operator(layout: &Layout, at: u32, cursor: &mut Cursor<'_>) -> Res
         Layout::Load(access) => load(access, cursor),
         Layout::Store(access) => store(access, cursor),
         Layout::Reserved(op) => reserved(op, cursor),
+        Layout::ReservedTwice(op) => reserved_twice(op, cursor),
         Layout::I32Const => word(cursor),
         Layout::I64Const => long(cursor),
         Layout::IndirectCall => indirect_call(cursor),
@@ -76,6 +77,14 @@ fn reserved(op: &Op, cursor: &mut Cursor<'_>) -> Result<Op, Fault>
     } else {
         Err(Refusal::Reserved.at(at))
     }
+}
+
+// Likewise two of them.
+fn reserved_twice(op: &Op, cursor: &mut Cursor<'_>) -> Result<Op, Fault>
+    ensures { Tells (λ op. (op, cursor.new)) result (zeros_from op.now cursor.old) }
+{
+    let first = reserved(op, cursor)?;
+    reserved(&first, cursor)
 }
 
 // The operator behind which the index of the only table stands. Refused: `Reserved` for another index.

@@ -42,10 +42,12 @@ key_of (op.Load access align offset) = record { kind = 20; first = type_key (Som
 key_of (op.Store access align offset) = record { kind = 21; first = type_key (Some access.value); second = access.width; third = flag_key access.signed; fourth = align; fifth = offset }
 key_of op.MemorySize = record { kind = 22; first = 0; second = 0; third = 0; fourth = 0; fifth = 0 }
 key_of op.MemoryGrow = record { kind = 23; first = 0; second = 0; third = 0; fourth = 0; fifth = 0 }
-key_of (op.ConstI32 n) = record { kind = 24; first = n; second = 0; third = 0; fourth = 0; fifth = 0 }
-key_of (op.ConstI64 n) = record { kind = 25; first = n; second = 0; third = 0; fourth = 0; fifth = 0 }
-key_of (op.Unary n) = record { kind = 26; first = n; second = 0; third = 0; fourth = 0; fifth = 0 }
-key_of (op.Binary n) = record { kind = 27; first = n; second = 0; third = 0; fourth = 0; fifth = 0 }
+key_of op.MemoryCopy = record { kind = 24; first = 0; second = 0; third = 0; fourth = 0; fifth = 0 }
+key_of op.MemoryFill = record { kind = 25; first = 0; second = 0; third = 0; fourth = 0; fifth = 0 }
+key_of (op.ConstI32 n) = record { kind = 26; first = n; second = 0; third = 0; fourth = 0; fifth = 0 }
+key_of (op.ConstI64 n) = record { kind = 27; first = n; second = 0; third = 0; fourth = 0; fifth = 0 }
+key_of (op.Unary n) = record { kind = 28; first = n; second = 0; third = 0; fourth = 0; fifth = 0 }
+key_of (op.Binary n) = record { kind = 29; first = n; second = 0; third = 0; fourth = 0; fifth = 0 }
 
 -- And back.
 
@@ -81,7 +83,9 @@ op_from key =
     if key.kind == 21 then op.Store (access_from key.first key.second key.third) key.fourth key.fifth else (
     if key.kind == 22 then op.MemorySize else (
     if key.kind == 23 then op.MemoryGrow else (
-    if key.kind == 24 then op.ConstI32 key.first else (
-    if key.kind == 25 then op.ConstI64 key.first else (
-    if key.kind == 26 then op.Unary key.first else (
-    op.Binary key.first)))))))))))))))))))))))))))
+    if key.kind == 24 then op.MemoryCopy else (
+    if key.kind == 25 then op.MemoryFill else (
+    if key.kind == 26 then op.ConstI32 key.first else (
+    if key.kind == 27 then op.ConstI64 key.first else (
+    if key.kind == 28 then op.Unary key.first else (
+    op.Binary key.first)))))))))))))))))))))))))))))

@@ -110,9 +110,11 @@ pub(crate) fn key_of(op: &Op) -> Key
         } => of_access(21, *access, *align, *offset),
         Op::MemorySize => short(22, 0, 0),
         Op::MemoryGrow => short(23, 0, 0),
-        Op::ConstI32(n) => short(24, *n as u64, 0),
-        Op::ConstI64(n) => short(25, *n, 0),
-        Op::Unary(n) => short(26, n.byte() as u64, 0),
-        Op::Binary(n) => short(27, n.byte() as u64, 0),
+        Op::MemoryCopy => short(24, 0, 0),
+        Op::MemoryFill => short(25, 0, 0),
+        Op::ConstI32(n) => short(26, *n as u64, 0),
+        Op::ConstI64(n) => short(27, *n, 0),
+        Op::Unary(n) => short(28, n.byte() as u64, 0),
+        Op::Binary(n) => short(29, n.byte() as u64, 0),
     }
 }

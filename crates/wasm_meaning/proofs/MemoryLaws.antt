@@ -1,8 +1,9 @@
 -- A store changes just its bytes, and a load after it gives the number modulo its width.
-use Rattle.std.proofs.Common.{◌≡◌, ◌↔◌, ℕ, zero, suc, ◌+◌, ◌*◌, ◌/◌, ◌%◌, ◌^◌, ◌≤◌, ◌<◌, Bool, true, false, cond, List, ◌++◌, length, take, drop, Some, None, refl, sym, ap, subst, ◌∙◌, arith, length-append}
+use Rattle.std.proofs.Common.{◌≡◌, ◌↔◌, ℕ, zero, suc, ◌+◌, ◌*◌, ◌/◌, ◌%◌, ◌^◌, ◌≤◌, ◌<◌, Bool, true, false, ◌&&◌, cond, List, ◌++◌, length, take, drop, replicate, Some, None, refl, sym, ap, subst, ◌∙◌, arith, length-append}
 use Rattle.std.proofs.lemmas.Bool.Decides.{nat_tests}
-use Rattle.std.proofs.lemmas.List.{take_at, drop_at, drop-drop, length-take-le, length-drop}
+use Rattle.std.proofs.lemmas.List.{take_at, drop_at, drop-drop, length-take-le, length-drop, length-replicate}
 use Rattle.std.proofs.lemmas.Nat.{mod-pow-add}
+use Rattle.wasm_meaning.specs.BulkMemory.{copied, filled}
 use Rattle.wasm_meaning.specs.Bytes.{number_of_bytes, bytes_of, lies_in, bytes_at, with_bytes, loaded, stored}
 use Rattle.wasm_meaning.specs.Laws.{Stores}
 
@@ -98,3 +99,35 @@ store_leaves memory at width n out = by (lies_in memory at width) refl
 
 pub store_refused : (memory : List ℕ) (at width n : ℕ) → (stored memory at width n ≡ None) ↔ (length memory < at + width)
 store_refused memory at width n = (store_fails memory at width n, store_leaves memory at width n)
+
+-- A run of bytes leaves the memory as long as it was.
+
+both_lie : (memory : List ℕ) (at other count : ℕ) → lies_in memory at count && lies_in memory other count ≡ true → (at + count ≤ length memory) × (other + count ≤ length memory)
+both_lie memory at other count e = (grind (arith, nat_tests), grind (arith, nat_tests))
+
+pub length-bytes_at : (memory : List ℕ) (from count : ℕ) → from + count ≤ length memory → length (bytes_at memory from count) ≡ count
+length-bytes_at memory from count fits = length-take-le count (drop from memory) (omega (arith, length-drop from memory, fits))
+
+pub copied_length : (memory : List ℕ) (to from count : ℕ) (after : List ℕ) → copied memory to from count ≡ Some after → length after ≡ length memory
+copied_length memory to from count after e = by (lies_in memory from count && lies_in memory to count) refl e
+  where
+    by
+        : (b : Bool) → lies_in memory from count && lies_in memory to count ≡ b → cond b (Some (with_bytes memory to (bytes_at memory from count))) None ≡ Some after
+        → length after ≡ length memory
+    by true l e =
+        let same : with_bytes memory to (bytes_at memory from count) ≡ after = cc in
+        let both = both_lie memory from to count l in
+        let many = length-bytes_at memory from count both.0 in
+        sym (ap length same) ∙ length-with_bytes memory to (bytes_at memory from count) (omega (arith, many, both.1))
+    by false l e = let bad : ⊥ = cc in absurd bad
+
+pub filled_length : (memory : List ℕ) (at byte count : ℕ) (after : List ℕ) → filled memory at byte count ≡ Some after → length after ≡ length memory
+filled_length memory at byte count after e = by (lies_in memory at count) refl e
+  where
+    by : (b : Bool) → lies_in memory at count ≡ b → cond b (Some (with_bytes memory at (replicate count byte))) None ≡ Some after → length after ≡ length memory
+    by true l e =
+        let same : with_bytes memory at (replicate count byte) ≡ after = cc in
+        let within = lies memory at count l in
+        let many = length-replicate count byte in
+        sym (ap length same) ∙ length-with_bytes memory at (replicate count byte) (omega (arith, many, within))
+    by false l e = let bad : ⊥ = cc in absurd bad

@@ -6,7 +6,7 @@ use Rattle.wasm_ops.specs.declared.types.FuncType.{FuncType}
 use Rattle.wasm_ops.specs.declared.types.ValType.{ValType}
 use Rattle.wasm_meaning.specs.declared.blocks.BlockKind.TheVariants.{BlockBody}
 use Rattle.wasm_meaning.specs.Control.{Arguments, take_arguments, Callee, Host, Defined, callee_at}
-use Rattle.wasm_meaning.specs.Effects.{Effect, Goes, Branches, Returns, Calls, Asks, Traps, Breaks}
+use Rattle.wasm_meaning.specs.Effects.{Effect, Goes, Writes, Branches, Returns, Calls, Asks, Traps, Breaks}
 use Rattle.wasm_meaning.specs.Fitting.{AreOf, Falls, IsFair, inside, FrameFits, StoreFits}
 use Rattle.wasm_meaning.specs.HostCalls.{Gives, HostEffect, host_type}
 use Rattle.wasm_meaning.specs.State.{Function, Instance, State}
@@ -80,6 +80,7 @@ pub record GoFits (cx : Context) (after : Walk) (st : State) : Type 0 where
 -- the effect finds what typing promised
 abbrev pub EffectFits : (cx : Context) (after : Walk) → Effect → Type 0
 EffectFits cx after (Goes st) = GoFits cx after st
+EffectFits cx after (Writes count st) = GoFits cx after st
 EffectFits cx after (Branches label st) = BranchFits cx label st
 EffectFits cx after (Returns st) = ReturnFits cx st
 EffectFits cx after (Calls f st) = CallFits cx after f st

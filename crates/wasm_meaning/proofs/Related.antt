@@ -1,9 +1,9 @@
 -- Two runs of the same sequence side by side: what holds of their parts holds of them whole. The laws of budgets are instances of it.
-use Rattle.std.proofs.Common.{◌≡◌, ℕ, zero, suc, ◌-◌, ◌<◌, ◌≤◌, ◌==◌, Bool, true, false, List, [], ◌∷◌, ◌++◌, Option, Some, None, slice_get, refl, arith}
+use Rattle.std.proofs.Common.{◌≡◌, ℕ, zero, suc, ◌+◌, ◌-◌, ◌/◌, ◌<◌, ◌≤◌, ◌==◌, Bool, true, false, List, [], ◌∷◌, ◌++◌, Option, Some, None, slice_get, refl, arith}
 use Rattle.wasm_ops.specs.Sequence.{Sequence, Done, Plain, InBlock, InLoop, InIf, InIfElse}
 use Rattle.wasm_ops.specs.declared.types.ValType.{ValType}
 use Rattle.wasm_meaning.specs.Control.{Arguments, take_arguments}
-use Rattle.wasm_meaning.specs.Effects.{Effect, Goes, Branches, Returns, Calls, Asks, Traps, Breaks, Taken, take_i32}
+use Rattle.wasm_meaning.specs.Effects.{Effect, Goes, Writes, Branches, Returns, Calls, Asks, Traps, Breaks, Taken, take_i32}
 use Rattle.wasm_meaning.specs.Execution.{pay, kept, with_result, close_block, close_loop, in_block, in_loop, choose_by, choose, has_room, Caller, caller_of, entered, left_call, close_call, call_within, call_with, call, after_host, answered, act, walk, exec}
 use Rattle.wasm_meaning.specs.HostCalls.{HostAnswer, Gives, Exits}
 use Rattle.wasm_meaning.specs.Operators.{effect, price_of, unit}
@@ -193,6 +193,8 @@ module _ (L : ℕ → ℕ → Type 0) (R : ℕ → ℕ → Run → Run → Type 
       → R l l' (pay (price_of e) st l (act again st e next)) (pay (price_of e) st l' (act again' st e next'))
   act_related n (Goes to) again again' next next' a g st l l' is lt =
       lifts.pays unit st l l' _ _ is (λ fits less. g.at to (l - unit) (l' - unit) less (omega (arith, lt)))
+  act_related n (Writes count to) again again' next next' a g st l l' is lt =
+      lifts.pays (unit + count / 64) st l l' _ _ is (λ fits less. g.at to (l - (unit + count / 64)) (l' - (unit + count / 64)) less (omega (arith, lt)))
   act_related n (Branches label to) again again' next next' a g st l l' is lt =
       lifts.pays unit st l l' _ _ is (λ fits less. lifts.ended (Branched label) to (l - unit) (l' - unit) less)
   act_related n (Returns to) again again' next next' a g st l l' is lt =

@@ -19,6 +19,8 @@ use Rattle.wasm_meaning.specs.Control.{branch_if as branches_if, branch_if_on, b
 use Rattle.wasm_meaning.specs.Effects.{Branches, Taken}
 use Rattle.wasm_meaning.specs.Fitting.{AreOf, Falls}
 use Rattle.wasm_meaning.specs.HostCalls.{host_type}
+use Rattle.wasm_meaning.specs.BulkMemory.{copied}
+use Rattle.wasm_meaning.specs.Memory.{filled_by}
 use Rattle.wasm_meaning.specs.Operators.{effect}
 use Rattle.wasm_meaning.specs.State.{Instance, State, with_operands}
 use Rattle.wasm_meaning.specs.Typing.{Context, with_table, with_memory as has_memory, call, call_indirect, set_global, is_label, takes, agrees, branch_table, plain}
@@ -28,7 +30,7 @@ use Rattle.wasm_meaning.specs.ValiditySpaces.{function_type, globals}
 use Rattle.wasm_meaning.specs.Values.{Value, Int32, number_in}
 use Rattle.wasm_meaning.proofs.Fits.{went, off, took_result, laid_result, took_arguments, same_types_equal}
 use Rattle.wasm_meaning.proofs.Ready.{CalleeFits, InstanceFits, Ready, BranchFits, ReturnFits, EffectFits, told, with_others, goes_on}
-use Rattle.wasm_meaning.proofs.SafeOperators.{known_is, holds_is, same_walk, const_fits, unary_fits, binary_fits, drop_fits, select_fits, local_get_fits, local_set_fits, local_tee_fits, global_get_fits, global_set_fits, load_fits, store_fits, grow_fits}
+use Rattle.wasm_meaning.proofs.SafeOperators.{known_is, holds_is, same_walk, const_fits, unary_fits, binary_fits, drop_fits, select_fits, local_get_fits, local_set_fits, local_tee_fits, global_get_fits, global_set_fits, load_fits, store_fits, grow_fits, bulk_fits}
 
 -- Branches.
 
@@ -322,6 +324,8 @@ module _ (cx : Context) where
     plain_fits op.MemoryGrow targets now after st p i e falls ready =
         let w = went (has_memory cx now) (λ there. unary I32 I32 now) after e in
         grow_fits cx inst.most now after st w.second falls ready
+    plain_fits op.MemoryCopy targets now after st p i e falls ready = bulk_fits cx copied now after st e falls ready
+    plain_fits op.MemoryFill targets now after st p i e falls ready = bulk_fits cx filled_by now after st e falls ready
     plain_fits (op.ConstI32 n) targets now after st p i e falls ready = const_fits cx I32 now after n st e falls ready
     plain_fits (op.ConstI64 n) targets now after st p i e falls ready = const_fits cx I64 now after n st e falls ready
     plain_fits (op.Unary byte) targets now after st p i e falls ready = unary_fits cx (operation_of byte) now after st i e falls ready

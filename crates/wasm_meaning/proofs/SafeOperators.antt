@@ -13,11 +13,11 @@ use Rattle.wasm_meaning.specs.declared.violations.Violation.{Violation}
 use Rattle.wasm_meaning.specs.Bytes.{loaded, stored, size_of, grown}
 use Rattle.wasm_meaning.specs.Effects.{Goes, Taken}
 use Rattle.wasm_meaning.specs.Fitting.{IsOne, Falls, types_of}
-use Rattle.wasm_meaning.specs.Memory.{load_effect, load_from, load_of, store_effect, store_from, store_to, store_of, grow_effect, grow_from, grow_of, widened}
+use Rattle.wasm_meaning.specs.Memory.{load_effect, load_from, load_of, store_effect, store_from, store_to, store_of, grow_effect, grow_from, grow_of, Laying, bulk_effect, bulk_from, bulk_second, bulk_first, bulk_of, widened}
 use Rattle.wasm_meaning.specs.Numeric.{unary_effect, unary_of, unary_on, binary_effect, binary_of, binary_on, binary_first, computed}
 use Rattle.wasm_meaning.specs.Parametric.{drop_effect, drop_from, select_effect, select_on, select_from, select_of, chosen}
 use Rattle.wasm_meaning.specs.State.{State, push, with_operands, with_locals, with_globals}
-use Rattle.wasm_meaning.specs.Typing.{Context, with_memory as has_memory, aligned, load, store, set_global, one_operand as one_typed, two_operands as two_typed}
+use Rattle.wasm_meaning.specs.Typing.{Context, with_memory as has_memory, aligned, load, store, bulk, set_global, one_operand as one_typed, two_operands as two_typed}
 use Rattle.wasm_meaning.specs.TypingOperands.{Walk, Operand, known, holds, pull, take_off, lay, gives, unary, select, keep_result, take_result, lay_result}
 use Rattle.wasm_meaning.specs.ValidityChecks.{go_on}
 use Rattle.wasm_meaning.specs.ValiditySpaces.{globals}
@@ -282,3 +282,29 @@ module _ (cx : Context) where
       let memory = grown st.store.memory (number_in o.value) most in
       told cx after (grow_effect most st) (grow_of memory (with_operands st o.under)) (ap (λ (t : Option Taken). grow_from most t st) o.taken)
       (grow_fits_of memory u.middle after st o.under u.second o.rest ready)
+
+  bulk_fits_of
+      : (count : ℕ) (memory : Option (List ℕ)) (after : Walk) (st : State) (under : List Value) → Falls after under → Ready cx st
+      → EffectFits cx after (bulk_of count memory (with_operands st under))
+  bulk_fits_of count None after st under falls ready = tt
+  bulk_fits_of count (Some memory) after st under falls ready = record {
+    falls = falls;
+    ready = record { frame = ready.frame; store = record { variables = ready.store.variables; table = ready.store.table } };
+  }
+
+  pub bulk_fits
+      : (lay : Laying) (now after : Walk) (st : State) → bulk cx now ≡ Ok after → Falls now st.operands → Ready cx st
+      → EffectFits cx after (bulk_effect lay st)
+  bulk_fits lay now after st e falls ready =
+      let w = went (has_memory cx now) (λ there. go_on (take_off (Some I32) now) (λ x. go_on (take_off (Some I32) x) (λ y. take_off (Some I32) y))) after e in
+      let u = went (take_off (Some I32) now) (λ x. go_on (take_off (Some I32) x) (λ y. take_off (Some I32) y)) after w.second in
+      let v = went (take_off (Some I32) u.middle) (λ y. take_off (Some I32) y) after u.second in
+      let count = off I32 now u.middle st.operands u.first falls in
+      let second = off I32 u.middle v.middle count.under v.first count.rest in
+      let first = off I32 v.middle after second.under v.second second.rest in
+      let memory = lay st.store.memory (number_in first.value) (number_in second.value) (number_in count.value) in
+      told cx after (bulk_effect lay st) (bulk_of (number_in count.value) memory (with_operands st first.under))
+      (ap (λ (t : Option Taken). bulk_from lay t st) count.taken
+      ∙ ap (λ (t : Option Taken). bulk_second lay (number_in count.value) t st) second.taken
+      ∙ ap (λ (t : Option Taken). bulk_first lay (number_in second.value) (number_in count.value) t st) first.taken)
+      (bulk_fits_of (number_in count.value) memory after st first.under first.rest ready)

@@ -11,7 +11,7 @@ use Rattle.wasm_meaning.specs.declared.blocks.BlockKind.TheVariants.{BlockBody, 
 use Rattle.wasm_meaning.specs.declared.violations.Rule.TheVariants.{IfWithoutElse}
 use Rattle.wasm_meaning.specs.declared.violations.Violation.{Violation}
 use Rattle.wasm_meaning.specs.Control.{Arguments, take_arguments}
-use Rattle.wasm_meaning.specs.Effects.{Effect, Goes, Branches, Returns, Calls, Asks, Traps, Breaks, Taken, take_i32}
+use Rattle.wasm_meaning.specs.Effects.{Effect, Goes, Writes, Branches, Returns, Calls, Asks, Traps, Breaks, Taken, take_i32}
 use Rattle.wasm_meaning.specs.Execution.{pay_if, pay, kept, with_result, close_block, close_loop, in_block, in_loop, choose_by, choose, has_room, Caller, caller_of, entered, left_call, leave_call, close_call, call_within, call_with, call, after_host, answered, act, walk, exec, nothing_left}
 use Rattle.wasm_meaning.specs.Fitting.{AreOf, Fit, Falls, IsFair, inside}
 use Rattle.wasm_meaning.specs.HostCalls.{HostAnswer, Gives, Exits, HostEffect}
@@ -279,6 +279,7 @@ module _ (inst : Instance) (again : Runner) (runner : RunnerFits inst again) whe
       : (cx : Context) (end between : Walk) → InstanceFits cx.whole inst → (st : State) (e : Effect) (next : Go) (left : ℕ) → EffectFits cx between e
       → ContinueFits (OutcomeFits cx end) cx between next → RunFits (OutcomeFits cx end) (act again st e next left)
   act_fits cx end between inst_fits st (Goes to) next left fits go = go.from to left fits
+  act_fits cx end between inst_fits st (Writes count to) next left fits go = go.from to left fits
   act_fits cx end between inst_fits st (Branches label to) next left fits go = record { holds = fits }
   act_fits cx end between inst_fits st (Returns to) next left fits go = record { holds = fits }
   act_fits cx end between inst_fits st (Calls f to) next left fits go =

@@ -7,10 +7,11 @@ use Rattle.wasm_meaning.specs.HostCalls.{HostEffect}
 use Rattle.wasm_meaning.specs.State.{Function, State, push}
 use Rattle.wasm_meaning.specs.Values.{Value, number_of}
 
--- it goes on; branches to a label; returns; calls a function, whose arguments are the last operands;
+-- it goes on; goes on, and has written so many bytes of memory; branches to a label; returns; calls a function, whose arguments are the last operands;
 -- has called a function of the host, of which only the answer is left to be given; traps; or breaks off, where an operand is missing or of another type
 pub data Effect : Type 0 where
   Goes : (st : State) → Effect
+  Writes : (count : ℕ) (st : State) → Effect
   Branches : (label : ℕ) (st : State) → Effect
   Returns : (st : State) → Effect
   Calls : (callee : Function) (st : State) → Effect

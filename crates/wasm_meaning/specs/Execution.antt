@@ -4,7 +4,7 @@ use Rattle.wasm_ops.specs.Sequence.{Done, Plain, InBlock, InLoop, InIf, InIfElse
 use Rattle.wasm_ops.specs.declared.traps.Trap.TheVariants.{StackExhausted}
 use Rattle.wasm_ops.specs.declared.types.ValType.{ValType}
 use Rattle.wasm_meaning.specs.Control.{Arguments, take_arguments}
-use Rattle.wasm_meaning.specs.Effects.{Effect, Goes, Branches, Returns, Calls, Asks, Traps, Breaks, Taken, take_i32}
+use Rattle.wasm_meaning.specs.Effects.{Effect, Goes, Writes, Branches, Returns, Calls, Asks, Traps, Breaks, Taken, take_i32}
 use Rattle.wasm_meaning.specs.HostCalls.{HostAnswer, Gives, Exits, HostEffect}
 use Rattle.wasm_meaning.specs.Operators.{effect, price_of, unit}
 use Rattle.wasm_meaning.specs.State.{Function, Instance, Frame, State, Fell, Branched, Returned, Trapped, Exited, Spent, Stuck, Run, Go, Runner, Next, ends, paid, after, with_operands, push}
@@ -165,6 +165,7 @@ answered (Exits code) next st left = ends (Exited code) st left
 -- an operator that is paid acts, and where it goes on, the rest runs
 abbrev pub act : Runner → State → Effect → (next : Go) → (left : ℕ) → Run
 act again st (Goes st') next left = next st' left
+act again st (Writes count st') next left = next st' left
 act again st (Branches label st') next left = ends (Branched label) st' left
 act again st (Returns st') next left = ends Returned st' left
 act again st (Calls callee st') next left = call again callee next st' left

@@ -1,12 +1,12 @@
--- What each operator does that opens no block and closes none, and what it costs (WebAssembly Core 1.0, section 4.4; prices are this project's own).
-use Rattle.std.specs.Prelude.{ℕ}
+-- What each operator does that opens no block and closes none, and what it costs (WebAssembly Core 1.0, section 4.4; Core 2.0, section 4.4.7, for `memory.copy` and `memory.fill`; prices are this project's own).
+use Rattle.std.specs.Prelude.{ℕ, ◌+◌, ◌/◌}
 use Rattle.wasm_ops.specs.Operations.{operation_of}
 use Rattle.wasm_ops.specs.declared.operators.Op.{Op}
 use Rattle.wasm_ops.specs.declared.operators.Op.TheVariants as op
 use Rattle.wasm_ops.specs.declared.traps.Trap.TheVariants as trap
 use Rattle.wasm_meaning.specs.Control.{branch_if, branch_table, call_effect, call_indirect_effect}
-use Rattle.wasm_meaning.specs.Effects.{Effect, Goes, Branches, Returns, Calls, Asks, Traps, Breaks}
-use Rattle.wasm_meaning.specs.Memory.{load_effect, store_effect, size_effect, grow_effect}
+use Rattle.wasm_meaning.specs.Effects.{Effect, Goes, Writes, Branches, Returns, Calls, Asks, Traps, Breaks}
+use Rattle.wasm_meaning.specs.Memory.{load_effect, store_effect, size_effect, grow_effect, copy_effect, fill_effect}
 use Rattle.wasm_meaning.specs.Numeric.{unary_effect, binary_effect}
 use Rattle.wasm_meaning.specs.Parametric.{drop_effect, select_effect}
 use Rattle.wasm_meaning.specs.State.{Instance, State, push}
@@ -29,6 +29,8 @@ effect inst (op.Load access align offset) st = load_effect access offset st
 effect inst (op.Store access align offset) st = store_effect access offset st
 effect inst op.MemorySize st = size_effect st
 effect inst op.MemoryGrow st = grow_effect inst.most st
+effect inst op.MemoryCopy st = copy_effect st
+effect inst op.MemoryFill st = fill_effect st
 effect inst op.Nop st = Goes st
 effect inst op.Unreachable st = Traps trap.Unreachable
 effect inst (op.Br label) st = Branches label st
@@ -45,13 +47,14 @@ effect inst op.End st = Breaks
 
 -- Prices.
 
--- what each operator costs, block, loop and if among them, but `else` and `end`, which cost nothing, and calls of the host
+-- what each operator costs, block, loop and if among them, but `else` and `end`, which cost nothing, calls of the host, `memory.copy` and `memory.fill`
 abbrev pub unit : ℕ
 unit = 1
 
--- what an operator with this effect costs: a call of the host its own price, directly or through the table
+-- what an operator with this effect costs: one that writes a run of bytes one unit more for each 64 of them, and a call of the host its own price, directly or through the table
 abbrev pub price_of : Effect → ℕ
 price_of (Goes st) = unit
+price_of (Writes count st) = unit + count / 64
 price_of (Branches label st) = unit
 price_of (Returns st) = unit
 price_of (Calls callee st) = unit

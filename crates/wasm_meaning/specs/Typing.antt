@@ -1,4 +1,4 @@
--- Which bodies are typed, and which rule any other one breaks first (WebAssembly Core 1.0, section 3.3).
+-- Which bodies are typed, and which rule any other one breaks first (WebAssembly Core 1.0, section 3.3; Core 2.0, section 3.3.7, for `memory.copy` and `memory.fill`).
 use Rattle.std.specs.Prelude.{ℕ, ◌+◌, ◌^◌, Bool, true, false, nat_lt, nat_le, max, List, [], ◌∷◌, ◌++◌, length, reverse, take, drop, slice_get, if◌then◌else◌, Option, Some, None, option_and_then, Result, Ok, Err}
 use Rattle.std.specs.List.{list_all}
 use Rattle.wasm_ops.specs.declared.types.ValType.{ValType}
@@ -72,6 +72,12 @@ store cx access align now =
     go_on (with_memory cx now) (λ there. go_on (aligned access align now) (λ fine.
     go_on (take_off (Some access.value) now) (λ after. take_off (Some I32) after)))
 
+-- a run of bytes: two numbers and a count, which comes last
+abbrev pub bulk : Context → Walk → Result Walk Violation
+bulk cx now =
+    go_on (with_memory cx now) (λ there. go_on (take_off (Some I32) now) (λ after.
+    go_on (take_off (Some I32) after) (λ last. take_off (Some I32) last)))
+
 -- an integer operator, whose byte always has an operation
 abbrev pub one_operand : Option Operation → Walk → Result Walk Violation
 one_operand None now = Ok now
@@ -125,6 +131,8 @@ plain cx (op.Load access align offset) now = load cx access align now
 plain cx (op.Store access align offset) now = store cx access align now
 plain cx op.MemorySize now = go_on (with_memory cx now) (λ there. gives I32 now)
 plain cx op.MemoryGrow now = go_on (with_memory cx now) (λ there. unary I32 I32 now)
+plain cx op.MemoryCopy now = bulk cx now
+plain cx op.MemoryFill now = bulk cx now
 plain cx (op.ConstI32 n) now = gives I32 now
 plain cx (op.ConstI64 n) now = gives I64 now
 plain cx (op.Unary byte) now = one_operand (operation_of byte) now

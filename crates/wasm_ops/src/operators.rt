@@ -1,4 +1,4 @@
-//! The operators of a body (WebAssembly Core 1.0, section 2.4).
+//! The operators of a body (WebAssembly Core 1.0, section 2.4; Core 2.0, section 2.4.7, for `memory.copy` and `memory.fill`).
 
 use crate::int_ops::IntOp;
 use crate::types::{Access, ValType};
@@ -103,6 +103,12 @@ pub enum Op {
 
     /// `memory.grow`
     MemoryGrow,
+
+    /// `memory.copy`
+    MemoryCopy,
+
+    /// `memory.fill`
+    MemoryFill,
 
     /// `i32.const`, a negative number as its two's complement.
     ConstI32(u32),

@@ -1,5 +1,5 @@
 -- What each operator keeps whatever typing says: the size of the memory within its most, the counts of frames and cells, and the ranges of operands that stay.
-use Rattle.std.proofs.Common.{◌≡◌, ℕ, ◌+◌, ◌*◌, ◌/◌, ◌^◌, ◌<◌, ◌≤◌, ◌==◌, Bool, true, false, cond, not, nat_lt, nat_le, List, [], ◌∷◌, ◌++◌, length, reverse, Option, Some, None, Result, Ok, Err, slice_get, refl, ap, subst, ◌∙◌, arith, length-append}
+use Rattle.std.proofs.Common.{◌≡◌, ℕ, ◌+◌, ◌*◌, ◌/◌, ◌%◌, ◌^◌, ◌<◌, ◌≤◌, ◌==◌, Bool, true, false, cond, not, nat_lt, nat_le, List, [], ◌∷◌, ◌++◌, length, reverse, Option, Some, None, Result, Ok, Err, slice_get, refl, ap, subst, ◌∙◌, arith, length-append}
 use Rattle.std.proofs.lemmas.Bool.Decides.{nat_tests}
 use Rattle.std.proofs.lemmas.List.{length-replicate}
 use Rattle.wasm_ops.specs.Arithmetic.{two_operands}
@@ -14,11 +14,12 @@ use Rattle.wasm_ops.specs.declared.types.Access.{Access}
 use Rattle.wasm_ops.specs.declared.types.FuncType.{FuncType}
 use Rattle.wasm_ops.specs.declared.types.ValType.{ValType}
 use Rattle.wasm_ops.specs.declared.types.ValType.TheVariants.{I32}
+use Rattle.wasm_meaning.specs.BulkMemory.{copied}
 use Rattle.wasm_meaning.specs.Bytes.{page, zeros, size_of, loaded, stored, grown}
 use Rattle.wasm_meaning.specs.Control.{branch_if_on, branch_if_of, branch_to, entry, branch_table_on, Callee, Host, Defined, callee_at, type_of_callee, Arguments, take_values, take_arguments, asks, calls, same_function_type, calls_if, calls_found, calls_element, call_indirect_on}
-use Rattle.wasm_meaning.specs.Effects.{Effect, Goes, Branches, Returns, Calls, Asks, Traps, Breaks, Taken, taken_over, take_off, take_i32, gives}
+use Rattle.wasm_meaning.specs.Effects.{Effect, Goes, Writes, Branches, Returns, Calls, Asks, Traps, Breaks, Taken, taken_over, take_off, take_i32, gives}
 use Rattle.wasm_meaning.specs.HostCalls.{Streams, HostEffect, Gives, host_type, host_effect, Transfer, transfer_of, reads_from, writes_to, reaches, overflows, room_of, listed, read, write, read_error, write_error, most_buffers, invalid_argument, bad_file_descriptor, fault, too_large}
-use Rattle.wasm_meaning.specs.Memory.{load_from, load_of, store_from, store_to, store_of, grow_from, grow_of}
+use Rattle.wasm_meaning.specs.Memory.{load_from, load_of, store_from, store_to, store_of, grow_from, grow_of, Laying, bulk_from, bulk_second, bulk_first, bulk_of, filled_by}
 use Rattle.wasm_meaning.specs.Numeric.{unary_effect, unary_of, unary_on, binary_effect, binary_of, binary_on, binary_first, computed}
 use Rattle.wasm_meaning.specs.Operators.{effect}
 use Rattle.wasm_meaning.specs.Parametric.{drop_from, select_on, select_from, select_of}
@@ -26,7 +27,7 @@ use Rattle.wasm_meaning.specs.State.{Instance, State, with_operands}
 use Rattle.wasm_meaning.specs.Values.{Value, has_type, number_of, type_of, numbers}
 use Rattle.wasm_meaning.specs.Variable.{local_set_from, local_tee_from, sets_locals, global_set_from, sets_globals, replaced}
 use Rattle.wasm_meaning.proofs.HostLaws.{host_keeps}
-use Rattle.wasm_meaning.proofs.MemoryLaws.{store_stores}
+use Rattle.wasm_meaning.proofs.MemoryLaws.{store_stores, copied_length, filled_length}
 use Rattle.wasm_pending.specs.Typed.{AreRanged, MemoryWithin}
 
 -- Operands that were taken off.
@@ -81,6 +82,7 @@ pub record KeepsAnswer (st : State) (host : HostEffect) : Type 0 where
 
 abbrev pub EffectKeeps : (most : ℕ) → State → Effect → Type 0
 EffectKeeps most st (Goes after) = KeepsCounts most st after
+EffectKeeps most st (Writes count after) = KeepsCounts most st after
 EffectKeeps most st (Branches label after) = FewerOperands st after
 EffectKeeps most st (Returns after) = FewerOperands st after
 EffectKeeps most st (Calls f after) = FewerOperands st after
@@ -114,6 +116,13 @@ grown_within most count memory after e within = by (nat_le (size_of memory + cou
         omega (arith, length-append memory (zeros (count * page)), length-replicate {A = ℕ} (count * page) 0, within.whole) in
         let pages : size_of (memory ++ zeros (count * page)) ≡ size_of memory + count = omega (arith, long) in
         subst (λ (x : List ℕ). MemoryWithin most x) here (record { whole = omega (arith, long, pages); within = omega (arith, pages, le) })
+
+-- a run of bytes leaves the memory as long as it was
+abbrev pub KeepsLength : Laying → Type 0
+KeepsLength lay = (memory : List ℕ) (first second count : ℕ) (after : List ℕ) → lay memory first second count ≡ Some after → length after ≡ length memory
+
+filled_by_length : KeepsLength filled_by
+filled_by_length memory at value count after e = filled_length memory at (value % 256) count after e
 
 -- The host.
 
@@ -279,6 +288,29 @@ module _ (most : ℕ) (start : State) where
         streams = refl;
       }
 
+  bulk_keeps : (lay : Laying) → KeepsLength lay → (count : Option Taken) → EffectKeeps most start (bulk_from lay count start)
+  bulk_keeps lay long None = tt
+  bulk_keeps lay long (Some count) = second (take_i32 count.under)
+    where
+      by
+          : (first other : ℕ) (values : List Value) (memory : Option (List ℕ)) → lay start.store.memory first other count.number ≡ memory
+          → EffectKeeps most start (bulk_of count.number memory (with_operands start values))
+      by first other values None e = tt
+      by first other values (Some memory) e = record {
+        memory = λ w. same_length_within most start.store.memory memory (long start.store.memory first other count.number memory e) w;
+        frames = refl;
+        cells = refl;
+        streams = refl;
+      }
+
+      first : (other : ℕ) (at : Option Taken) → EffectKeeps most start (bulk_first lay other count.number at start)
+      first other None = tt
+      first other (Some at) = by at.number other at.under (lay start.store.memory at.number other count.number) refl
+
+      second : (other : Option Taken) → EffectKeeps most start (bulk_second lay count.number other start)
+      second None = tt
+      second (Some other) = first other.number (take_i32 other.under)
+
   -- Branches.
 
   branch_if_keeps : (label : ℕ) (taken : Option Taken) → take_i32 start.operands ≡ taken → EffectKeeps most start (branch_if_on label taken start)
@@ -358,6 +390,8 @@ effect_keeps inst (op.Load access align offset) st = load_keeps inst.most st acc
 effect_keeps inst (op.Store access align offset) st = store_keeps inst.most st access offset (take_off access.value st.operands)
 effect_keeps inst op.MemorySize st = same_counts inst.most st _
 effect_keeps inst op.MemoryGrow st = grow_keeps inst.most st (take_i32 st.operands)
+effect_keeps inst op.MemoryCopy st = bulk_keeps inst.most st copied copied_length (take_i32 st.operands)
+effect_keeps inst op.MemoryFill st = bulk_keeps inst.most st filled_by filled_by_length (take_i32 st.operands)
 effect_keeps inst op.Nop st = same_counts inst.most st st.operands
 effect_keeps inst op.Unreachable st = tt
 effect_keeps inst (op.Br label) st = all_kept st

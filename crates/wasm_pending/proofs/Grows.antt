@@ -15,7 +15,7 @@ use Rattle.wasm_meaning.specs.declared.blocks.BlockKind.TheVariants.{BlockBody, 
 use Rattle.wasm_meaning.specs.declared.blocks.GlobalType.{GlobalType}
 use Rattle.wasm_meaning.specs.declared.violations.Rule.TheVariants.{UnknownIndex, LabelDepth, BranchTypes, ImmutableGlobal, IfWithoutElse, OperandType}
 use Rattle.wasm_meaning.specs.declared.violations.Violation.{Violation}
-use Rattle.wasm_meaning.specs.Typing.{Context, with_table, with_memory, call, call_indirect, set_global, aligned, load, store, one_operand, two_operands, is_label, agrees, branch_table, plain, next, enter, within, lacks_else, emptied_of, emptied, ended, back, leave, turn, typed}
+use Rattle.wasm_meaning.specs.Typing.{Context, with_table, with_memory, call, call_indirect, set_global, aligned, load, store, bulk, one_operand, two_operands, is_label, agrees, branch_table, plain, next, enter, within, lacks_else, emptied_of, emptied, ended, back, leave, turn, typed}
 use Rattle.wasm_meaning.specs.TypingOperands.{Walk, Operand, breaks, known, holds, fits, exact, pull_from, pull, take_off, take_result, take_all, lay, lay_result, cut, gives, unary, binary, branch, keep_result, branch_if, select}
 use Rattle.wasm_meaning.specs.ValidityChecks.{go_on}
 use Rattle.wasm_meaning.specs.ValiditySpaces.{function_type, globals}
@@ -150,6 +150,14 @@ module _ (cx : Context) where
       let u = went (take_off (Some access.value) now) (λ x. take_off (Some I32) x) after w'.second in
       then now u.middle after (take_off_same (Some access.value) now u.middle u.first) (take_off_same (Some I32) u.middle after u.second)
 
+  bulk_same : (now after : Walk) → bulk cx now ≡ Ok after → SameCount now after
+  bulk_same now after e =
+      let w = went (with_memory cx now) (λ there. go_on (take_off (Some I32) now) (λ x. go_on (take_off (Some I32) x) (λ y. take_off (Some I32) y))) after e in
+      let u = went (take_off (Some I32) now) (λ x. go_on (take_off (Some I32) x) (λ y. take_off (Some I32) y)) after w.second in
+      let v = went (take_off (Some I32) u.middle) (λ y. take_off (Some I32) y) after u.second in
+      then now u.middle after (take_off_same (Some I32) now u.middle u.first)
+      (then u.middle v.middle after (take_off_same (Some I32) u.middle v.middle v.first) (take_off_same (Some I32) v.middle after v.second))
+
   branch_table_same : (labels : List ℕ) (default : Option ℕ) (now after : Walk) → branch_table cx labels default now ≡ Ok after → SameCount now after
   branch_table_same labels default now after e =
       let w = went (holds LabelDepth now (list_all (is_label cx) labels)) (λ all_known.
@@ -194,6 +202,8 @@ module _ (cx : Context) where
   plain_same (op.Store access align offset) now after e = store_same access align now after e
   plain_same op.MemorySize now after e = let w = went (with_memory cx now) (λ there. gives I32 now) after e in gives_same I32 now after w.second
   plain_same op.MemoryGrow now after e = let w = went (with_memory cx now) (λ there. unary I32 I32 now) after e in unary_same I32 I32 now after w.second
+  plain_same op.MemoryCopy now after e = bulk_same now after e
+  plain_same op.MemoryFill now after e = bulk_same now after e
   plain_same (op.ConstI32 n) now after e = gives_same I32 now after e
   plain_same (op.ConstI64 n) now after e = gives_same I64 now after e
   plain_same (op.Unary byte) now after e = one_operand_same (operation_of byte) now after e

@@ -2,7 +2,7 @@
 use Rattle.std.proofs.Common.{◌≡◌, ℕ, List, ◌∷◌, length, Ok, sym, subst, ◌∙◌}
 use Rattle.wasm_ops.specs.Sequence.{Sequence, Plain}
 use Rattle.wasm_ops.specs.declared.operators.Op.{Op}
-use Rattle.wasm_meaning.specs.Effects.{Effect, Goes, Asks, Breaks}
+use Rattle.wasm_meaning.specs.Effects.{Effect, Goes, Writes, Asks, Breaks}
 use Rattle.wasm_meaning.specs.Execution.{after_host}
 use Rattle.wasm_meaning.specs.HostCalls.{HostEffect, Gives}
 use Rattle.wasm_meaning.specs.Operators.{effect}
@@ -13,10 +13,10 @@ use Rattle.wasm_meaning.specs.Typing.{plain, typed, next}
 use Rattle.wasm_meaning.specs.TypingOperands.{Walk}
 use Rattle.wasm_meaning.specs.Values.{Int32}
 use Rattle.wasm_meaning.proofs.Fits.{went}
-use Rattle.wasm_meaning.proofs.Ready.{EffectFits}
+use Rattle.wasm_meaning.proofs.Ready.{EffectFits, GoFits}
 use Rattle.wasm_meaning.proofs.SafeControl.{plain_fits}
 use Rattle.wasm_meaning.proofs.SafeInstances.{instance_fits}
-use Rattle.wasm_pending.proofs.Effects.{EffectKeeps, effect_keeps, same_length_within}
+use Rattle.wasm_pending.proofs.Effects.{EffectKeeps, KeepsCounts, effect_keeps, same_length_within}
 use Rattle.wasm_pending.proofs.Grows.{plain_same}
 use Rattle.wasm_pending.proofs.Walks.{ready_of, frame_of, placed_next, rest_typed}
 use Rattle.wasm_pending.specs.Frames.{in_frame, context}
@@ -59,12 +59,12 @@ module _ (program : Program) (is : IsProgram program) (function : ℕ) (o : Op) 
   pub never_breaks : effect (instance_of program) o st ≡ Breaks → ⊥
   never_breaks same = fits_as Breaks same
 
-  pub goes_typed
-      : (after : State) → effect (instance_of program) o st ≡ Goes after → AreRanged after.operands → AreRanged after.frame.locals → AreRanged after.store.globals
+  -- what fits and keeps its counts is typed, where all of its values are within their ranges
+  on_typed
+      : (after : State) → GoFits (context program.linked t.runs around) at_operator.behind after → KeepsCounts (most program) st after
+      → AreRanged after.operands → AreRanged after.frame.locals → AreRanged after.store.globals
       → Typed program function (pending_at rest around after)
-  goes_typed after same operands locals globals =
-      let fits = fits_as (Goes after) same in
-      let keeps = keeps_as (Goes after) same in
+  on_typed after fits keeps operands locals globals =
       record {
         runs = t.runs;
         is = t.is;
@@ -77,6 +77,17 @@ module _ (program : Program) (is : IsProgram program) (function : ℕ) (o : Op) 
         store = record { fits = fits.ready.store; memory = keeps.memory t.store.memory; globals = globals };
         ranged = operands;
       }
+
+  pub goes_typed
+      : (after : State) → effect (instance_of program) o st ≡ Goes after → AreRanged after.operands → AreRanged after.frame.locals → AreRanged after.store.globals
+      → Typed program function (pending_at rest around after)
+  goes_typed after same operands locals globals = on_typed after (fits_as (Goes after) same) (keeps_as (Goes after) same) operands locals globals
+
+  pub writes_typed
+      : (count : ℕ) (after : State) → effect (instance_of program) o st ≡ Writes count after → AreRanged after.operands → AreRanged after.frame.locals
+      → AreRanged after.store.globals → Typed program function (pending_at rest around after)
+  writes_typed count after same operands locals globals =
+      on_typed after (fits_as (Writes count after) same) (keeps_as (Writes count after) same) operands locals globals
 
   -- behind a call of the host, which gave an error number
   pub answered_typed

@@ -1,6 +1,6 @@
 //! Laws of what is pending. Each function does nothing: its contract is the law.
 ghost use Rattle.std.specs.Prelude.{◌≡◌, ◌≢◌, ℕ, ◌+◌, ◌≤◌, ◌<◌, List, ◌∷◌, ◌++◌, length, Option, Some, slice_get};
-ghost use Rattle.wasm_meaning.specs.Effects.{Goes, Branches, Returns, Calls, Asks, Breaks};
+ghost use Rattle.wasm_meaning.specs.Effects.{Goes, Writes, Branches, Returns, Calls, Asks, Breaks};
 ghost use Rattle.wasm_meaning.specs.Execution.{Caller, after_host};
 ghost use Rattle.wasm_meaning.specs.HostCalls.{HostEffect, Gives};
 ghost use Rattle.wasm_meaning.specs.Operators.{effect};
@@ -22,10 +22,11 @@ pub fn programs_begin_typed()
     ensures enters { (program : Program) → IsProgram program → (function tag : ℕ) (f : Function) (around : List Around) (st : State) → Idle program (pending_at Done (Entering function ∷ around) st) → slice_get (defined program.linked) function ≡ Some f → Enters program tag function f Done around st }
 {}
 
-/// An operator finds its operands. Where it goes on, or a function of the host has answered, what is pending behind it is typed, if the values that it gave are within their ranges.
+/// An operator finds its operands. Where it goes on, with bytes of memory written or without, or a function of the host has answered, what is pending behind it is typed, if the values that it gave are within their ranges.
 pub fn operators_keep_types()
     ensures finds { (program : Program) → IsProgram program → (function : ℕ) (o : Op) (rest : Sequence) (around : List Around) (st : State) → Typed program function (pending_at (Plain o rest) around st) → effect (instance_of program) o st ≢ Breaks }
     ensures goes { (program : Program) → IsProgram program → (function : ℕ) (o : Op) (rest : Sequence) (around : List Around) (st : State) → Typed program function (pending_at (Plain o rest) around st) → (after : State) → effect (instance_of program) o st ≡ Goes after → AreRanged after.operands → AreRanged after.frame.locals → AreRanged after.store.globals → Typed program function (pending_at rest around after) }
+    ensures writes { (program : Program) → IsProgram program → (function : ℕ) (o : Op) (rest : Sequence) (around : List Around) (st : State) → Typed program function (pending_at (Plain o rest) around st) → (count : ℕ) (after : State) → effect (instance_of program) o st ≡ Writes count after → AreRanged after.operands → AreRanged after.frame.locals → AreRanged after.store.globals → Typed program function (pending_at rest around after) }
     ensures answers { (program : Program) → IsProgram program → (function : ℕ) (o : Op) (rest : Sequence) (around : List Around) (st : State) → Typed program function (pending_at (Plain o rest) around st) → (host : HostEffect) (errno : ℕ) (after : State) → effect (instance_of program) o st ≡ Asks host after → host.answer ≡ Gives errno → Typed program function (pending_at rest around (push (Int32 errno) (after_host after host))) }
 {}
 

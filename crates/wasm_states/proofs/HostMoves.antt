@@ -32,7 +32,7 @@ use Rattle.wasm_states.proofs.BlockMoves.{cells_top, number_is}
 use Rattle.wasm_states.proofs.CallMoves.{takes_front, numbers-reverse}
 use Rattle.wasm_states.proofs.Inversions.{plain_here}
 use Rattle.wasm_states.proofs.Moving.{stays}
-use Rattle.wasm_states.proofs.RunLaws.{effect_runs, outward_last, exit_last}
+use Rattle.wasm_states.proofs.RunLaws.{effect_runs, outward_last, exit_last, item_of}
 use Rattle.wasm_states.proofs.SpendingLaws.{operator_pays, short_out}
 use Rattle.wasm_states.proofs.StateLaws.{place_of, running_of, told, untold, plain_no_end, moves_few}
 
@@ -100,10 +100,6 @@ host_runs p v call o rest around st to host errno asks_is answer least bound lef
     ∙ ap (λ (a : HostAnswer). paid (host.price ∷ []) (outward (instance_of p) (exec (instance_of p) bound) (walk (instance_of p) (exec (instance_of p) bound)) around
     (answered_run a (walk (instance_of p) (exec (instance_of p) bound) rest) (after_host_state to host) left))) answer
     ∙ ap (λ (ps : List ℕ). paid ps (onward (instance_of p) bound (pending_at rest around (push (Int32 errno) (after_host_state to host))) left)) (item_of host.price least)
-  where
-    item_of : (price : ℕ) → 1 ≤ price → price ∷ [] ≡ item price
-    item_of zero least = let bad : ⊥ = omega (arith, least) in absurd bad
-    item_of (suc price) least = refl
 
 host_exits
     : (p : Program) (o : Op) (rest : Sequence) (around : List Around) (st to : State) (host : HostEffect) (code : ℕ)
@@ -120,10 +116,6 @@ host_exits p o rest around st to host code asks_is answer least bound left =
       left_is = ap (λ (r : Run). r.left) here;
       streams_are = ap (λ (r : Run). r.state.store.streams) here;
     }
-  where
-    item_of : (price : ℕ) → 1 ≤ price → price ∷ [] ≡ item price
-    item_of zero least = let bad : ⊥ = omega (arith, least) in absurd bad
-    item_of (suc price) least = refl
 
 -- the vessel after the call has the rest before it
 host_answers

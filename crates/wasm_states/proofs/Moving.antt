@@ -1,16 +1,17 @@
 -- Moves in the same call, and operators that go on.
-use Rattle.std.proofs.Common.{◌≡◌, ℕ, ◌+◌, ◌≤◌, inl, List, ◌++◌, length, refl, sym, ap, subst, ◌∙◌, arith}
+use Rattle.std.proofs.Common.{◌≡◌, ℕ, ◌+◌, ◌/◌, ◌≤◌, inl, List, ◌++◌, length, refl, sym, ap, subst, ◌∙◌, arith}
 use Rattle.wasm_ops.specs.declared.operators.Op.{Op}
 use Rattle.wasm_ops.specs.Sequence.{Sequence, Plain, size}
-use Rattle.wasm_meaning.specs.Effects.{Goes}
+use Rattle.wasm_meaning.specs.Effects.{Goes, Writes}
 use Rattle.wasm_meaning.specs.Operators.{effect}
 use Rattle.wasm_meaning.specs.Pending.{Around, Pending}
-use Rattle.wasm_meaning.specs.Programs.{Program, instance_of}
+use Rattle.wasm_meaning.specs.Programs.{Program, instance_of, most}
 use Rattle.wasm_meaning.specs.State.{Store, State}
 use Rattle.wasm_meaning.specs.Values.{numbers}
 use Rattle.wasm_pending.specs.Steps.{pending_at}
 use Rattle.wasm_pending.specs.Typed.{AreRanged, Typed}
-use Rattle.wasm_pending.proofs.Plains.{goes_typed, keeps_as}
+use Rattle.wasm_pending.proofs.Effects.{KeepsCounts}
+use Rattle.wasm_pending.proofs.Plains.{goes_typed, writes_typed, keeps_as}
 use Rattle.wasm_store.specs.View.{View}
 use Rattle.wasm_store.specs.declared.labels.Label.{Label}
 use Rattle.wasm_states.specs.Chains.{cells_under, Chain}
@@ -18,7 +19,7 @@ use Rattle.wasm_states.specs.Codes.{Stands}
 use Rattle.wasm_states.specs.Holding.{Holds}
 use Rattle.wasm_states.specs.Running.{Running}
 use Rattle.wasm_states.specs.Steps.{RunsOn, Reaches}
-use Rattle.wasm_states.proofs.RunLaws.{goes_run}
+use Rattle.wasm_states.proofs.RunLaws.{goes_run, writes_run}
 
 -- a place of the same body, with other cells and labels
 abbrev pub moved_to : View → (place : ℕ) (cells : List ℕ) (labels : List Label) → View
@@ -88,17 +89,16 @@ pub record GoesOn (p : Program) (v : View) (st to : State) (around : List Around
   pub locals_ranged : AreRanged to.frame.locals
   pub globals_ranged : AreRanged to.store.globals
 
--- an operator that goes on moves the vessel to the next place
-pub goes_reaches
-    : (p : Program) (v : View) (o : Op) (rest : Sequence) (around : List Around) (st to : State) (h : Holds p v (pending_at (Plain o rest) around st))
-    → Running p v (pending_at (Plain o rest) around st) → effect (instance_of p) o st ≡ Goes to → (memory globals cells : List ℕ)
+-- an operator that is paid and leaves the rest moves the vessel to the next place
+on_reaches
+    : (p : Program) (v : View) (o : Op) (rest : Sequence) (around : List Around) (st to : State) (price : ℕ) (h : Holds p v (pending_at (Plain o rest) around st))
+    → Running p v (pending_at (Plain o rest) around st) → KeepsCounts (most p) st to → Typed p v.function (pending_at rest around to)
+    → RunsOn p (pending_at (Plain o rest) around st) price (pending_at rest around to) → (memory globals cells : List ℕ)
     → GoesOn p v st to around memory globals cells
-    → Reaches p (pending_at (Plain o rest) around st) 1 (record v { memory = memory; globals = globals; place = v.place + 1; cells = cells })
-goes_reaches p v o rest around st to h r goes memory globals cells g =
+    → Reaches p (pending_at (Plain o rest) around st) price (record v { memory = memory; globals = globals; place = v.place + 1; cells = cells })
+on_reaches p v o rest around st to price h r keeps typing runs memory globals cells g =
     let w = pending_at (Plain o rest) around st in
     let w' = pending_at rest around to in
-    let keeps = keeps_as p h.program v.function o rest around st r.typing (Goes to) goes in
-    let typing = goes_typed p h.program v.function o rest around st r.typing to goes g.operands_ranged g.locals_ranged g.globals_ranged in
     let stop : v.place + size (Plain o rest) ≡ v.place + 1 + size rest = omega arith in
     let chain = subst (λ (k : ℕ). Chain p.linked r.code.function r.code.body.ops k v.used (length st.frame.locals) v.entries around v.labels v.frames) stop r.chain in
     let chain' = subst (λ (k : ℕ). Chain p.linked r.code.function r.code.body.ops (v.place + 1 + size rest) v.used k v.entries around v.labels v.frames) (sym g.as_many_locals) chain in
@@ -123,5 +123,26 @@ goes_reaches p v o rest around st to h r goes memory globals cells g =
         };
         few_entries = h.few_entries;
       };
-      runs = goes_run p o rest around st to goes keeps.streams;
+      runs = runs;
     }
+
+pub goes_reaches
+    : (p : Program) (v : View) (o : Op) (rest : Sequence) (around : List Around) (st to : State) (h : Holds p v (pending_at (Plain o rest) around st))
+    → Running p v (pending_at (Plain o rest) around st) → effect (instance_of p) o st ≡ Goes to → (memory globals cells : List ℕ)
+    → GoesOn p v st to around memory globals cells
+    → Reaches p (pending_at (Plain o rest) around st) 1 (record v { memory = memory; globals = globals; place = v.place + 1; cells = cells })
+goes_reaches p v o rest around st to h r goes memory globals cells g =
+    let keeps = keeps_as p h.program v.function o rest around st r.typing (Goes to) goes in
+    let typing = goes_typed p h.program v.function o rest around st r.typing to goes g.operands_ranged g.locals_ranged g.globals_ranged in
+    on_reaches p v o rest around st to 1 h r keeps typing (goes_run p o rest around st to goes keeps.streams) memory globals cells g
+
+-- likewise one that has written a run of bytes
+pub writes_reaches
+    : (p : Program) (v : View) (o : Op) (rest : Sequence) (around : List Around) (st to : State) (count : ℕ) (h : Holds p v (pending_at (Plain o rest) around st))
+    → Running p v (pending_at (Plain o rest) around st) → effect (instance_of p) o st ≡ Writes count to → (memory globals cells : List ℕ)
+    → GoesOn p v st to around memory globals cells
+    → Reaches p (pending_at (Plain o rest) around st) (1 + count / 64) (record v { memory = memory; globals = globals; place = v.place + 1; cells = cells })
+writes_reaches p v o rest around st to count h r writes memory globals cells g =
+    let keeps = keeps_as p h.program v.function o rest around st r.typing (Writes count to) writes in
+    let typing = writes_typed p h.program v.function o rest around st r.typing count to writes g.operands_ranged g.locals_ranged g.globals_ranged in
+    on_reaches p v o rest around st to (1 + count / 64) h r keeps typing (writes_run p o rest around st to count writes keeps.streams) memory globals cells g

@@ -1,12 +1,12 @@
 -- How running on from what is pending goes on behind one operator, and behind the end of a sequence.
-use Rattle.std.proofs.Common.{◌≡◌, ℕ, zero, suc, ◌+◌, ◌-◌, ◌≤◌, ◌==◌, Bool, true, false, List, [], ◌∷◌, ◌++◌, Option, Some, None, slice_get, refl, sym, ap, ◌∙◌, append_assoc, option_map, arith}
+use Rattle.std.proofs.Common.{◌≡◌, ℕ, zero, suc, ◌+◌, ◌-◌, ◌/◌, ◌≤◌, ◌==◌, Bool, true, false, List, [], ◌∷◌, ◌++◌, Option, Some, None, slice_get, refl, sym, ap, ◌∙◌, append_assoc, option_map, arith}
 use Rattle.wasm_ops.specs.Sequence.{Sequence, Done, Plain, InBlock, InLoop, InIf, InIfElse}
 use Rattle.wasm_ops.specs.declared.operators.Op.{Op}
 use Rattle.wasm_ops.specs.declared.traps.Trap.{Trap}
 use Rattle.wasm_ops.specs.declared.traps.Trap.TheVariants.{StackExhausted}
 use Rattle.wasm_ops.specs.declared.types.ValType.{ValType}
 use Rattle.wasm_meaning.specs.Control.{Arguments, take_arguments}
-use Rattle.wasm_meaning.specs.Effects.{Effect, Goes, Branches, Returns, Calls, Traps, Taken, take_i32}
+use Rattle.wasm_meaning.specs.Effects.{Effect, Goes, Writes, Branches, Returns, Calls, Traps, Taken, take_i32}
 use Rattle.wasm_meaning.specs.Execution.{pay_if, pay, kept, Caller, caller_of, entered, left_call, close_call, has_room, call, call_with, call_within, act, walk, exec, with_result, choose, choose_by}
 use Rattle.wasm_meaning.specs.Operators.{effect, price_of}
 use Rattle.wasm_meaning.specs.Pending.{Around, AroundBlock, AroundLoop, AroundCall, Entering, Pending, enter, close, outward, onward}
@@ -202,6 +202,20 @@ pub goes_run
 goes_run p o rest around st to is streams_same =
     raised p (pending_at (Plain o rest) around st) (pending_at rest around to) 1 streams_same
     (λ b left le. effect_runs (instance_of p) (suc b) left o rest around st (Goes to) is)
+
+-- a price that is something is an item
+pub item_of : (price : ℕ) → 1 ≤ price → price ∷ [] ≡ item price
+item_of zero least = let bad : ⊥ = omega (arith, least) in absurd bad
+item_of (suc price) least = refl
+
+pub writes_run
+    : (p : Program) (o : Op) (rest : Sequence) (around : List Around) (st to : State) (count : ℕ) → effect (instance_of p) o st ≡ Writes count to
+    → to.store.streams ≡ st.store.streams → RunsOn p (pending_at (Plain o rest) around st) (1 + count / 64) (pending_at rest around to)
+writes_run p o rest around st to count is streams_same =
+    raised p (pending_at (Plain o rest) around st) (pending_at rest around to) (1 + count / 64) streams_same
+    (λ b left le.
+    effect_runs (instance_of p) (suc b) left o rest around st (Writes count to) is
+    ∙ ap (λ (ps : List ℕ). paid ps (onward (instance_of p) (suc b) (pending_at rest around to) left)) (item_of (1 + count / 64) (omega arith)))
 
 pub branches_run
     : (p : Program) (o : Op) (rest : Sequence) (around : List Around) (st to : State) (label : ℕ) (w' : Pending)

@@ -1,8 +1,9 @@
 -- What is pending pays for its next operator, or has not enough for it.
 use Rattle.std.proofs.Common.{◌≡◌, ◌≢◌, ℕ, ◌-◌, ◌<◌, ◌≤◌, Bool, true, false, nat_lt, List, [], ◌∷◌, ap, ◌∙◌, arith}
 use Rattle.std.proofs.lemmas.Bool.Decides.{nat_tests}
+use Rattle.wasm_ops.specs.declared.operators.Op.{Op}
 use Rattle.wasm_ops.specs.Sequence.{Sequence, Done, Plain, InBlock, InLoop, InIf, InIfElse}
-use Rattle.wasm_meaning.specs.Effects.{Effect, Goes, Branches, Returns, Calls, Asks, Traps, Breaks}
+use Rattle.wasm_meaning.specs.Effects.{Effect, Goes, Writes, Branches, Returns, Calls, Asks, Traps, Breaks}
 use Rattle.wasm_meaning.specs.Execution.{pay_if, pay, unpaid, act, walk, exec}
 use Rattle.wasm_meaning.specs.Operators.{effect, price_of}
 use Rattle.wasm_meaning.specs.Pending.{Around, outward}
@@ -65,6 +66,16 @@ short_out inst bound price left around st go lt =
       streams_are = ap (λ (r : Run). r.state.store.streams) here;
     }
 
+-- with less left than its price, a plain operator is not paid
+pub plain_lacks
+    : (p : Program) (o : Op) (rest : Sequence) (around : List Around) (st : State) (left : ℕ) → left < price_of (effect (instance_of p) o st)
+    → Lacks p (pending_at (Plain o rest) around st) left
+plain_lacks p o rest around st left lt = record {
+  lacks = λ bound.
+      short_out (instance_of p) bound (price_of (effect (instance_of p) o st)) left around st
+      (act (exec (instance_of p) bound) st (effect (instance_of p) o st) (walk (instance_of p) (exec (instance_of p) bound) rest)) lt;
+}
+
 -- the first operator of a sequence costs something
 abbrev pub CostsSome : Program → Sequence → State → Type 0
 CostsSome p Done st = ⊥
@@ -86,6 +97,7 @@ nothing_lacks p (InIfElse t inner other rest) around st has = record { lacks = �
 -- each operator that is plain costs something
 costs_some : (most : ℕ) (st : State) (e : Effect) → EffectKeeps most st e → 1 ≤ price_of e
 costs_some most st (Goes after) keeps = omega arith
+costs_some most st (Writes count after) keeps = omega arith
 costs_some most st (Branches label after) keeps = omega arith
 costs_some most st (Returns after) keeps = omega arith
 costs_some most st (Calls f after) keeps = omega arith

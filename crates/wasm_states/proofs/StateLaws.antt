@@ -75,30 +75,29 @@ told P w s e h = subst P (ap (λ (x : Sequence). record w { sequence = x }) e) h
 pub untold : (P : Pending → Type 0) (w : Pending) (s : Sequence) → w.sequence ≡ s → P (pending_at s w.around w.state) → P w
 untold P w s e h = subst P (sym (ap (λ (x : Sequence). record w { sequence = x }) e)) h
 
+-- what holds of each pending that goes on with a plain operator holds of whatever the vessel has before it
+pub plain_each
+    : (p : Program) (v : View) (o : Op) (P : Pending → Type 0) → op_at p v ≡ Some o → IsPlain o
+    → ((rest : Sequence) (around : List Around) (st : State) → Holds p v (pending_at (Plain o rest) around st) → Running p v (pending_at (Plain o rest) around st) → P (pending_at (Plain o rest) around st))
+    → (w : Pending) → Holds p v w → P w
+plain_each p v o P at plain each w h =
+    let r = running_of p v w o h at (plain_no_end o plain) in
+    let here = plain_here r.code.body.ops v.place w.sequence o (place_of p v w r o at) plain in
+    untold P w (Plain o here.rest) here.is
+    (each here.rest w.around w.state (told (λ (x : Pending). Holds p v x) w (Plain o here.rest) here.is h) (told (λ (x : Pending). Running p v x) w (Plain o here.rest) here.is r))
+
 -- a plain operator moves the vessel, if it does so for each pending that goes on with it
 pub plain_moves
     : (p : Program) (v v' : View) (o : Op) (price : ℕ) → op_at p v ≡ Some o → IsPlain o
     → ((rest : Sequence) (around : List Around) (st : State) → Holds p v (pending_at (Plain o rest) around st) → Running p v (pending_at (Plain o rest) around st) → Reaches p (pending_at (Plain o rest) around st) price v')
     → Moves p v v' price
-plain_moves p v v' o price at plain each = record {
-  moves = λ w h.
-      let r = running_of p v w o h at (plain_no_end o plain) in
-      let here = plain_here r.code.body.ops v.place w.sequence o (place_of p v w r o at) plain in
-      untold (λ (x : Pending). Reaches p x price v') w (Plain o here.rest) here.is
-      (each here.rest w.around w.state (told (λ (x : Pending). Holds p v x) w (Plain o here.rest) here.is h) (told (λ (x : Pending). Running p v x) w (Plain o here.rest) here.is r));
-}
+plain_moves p v v' o price at plain each = record { moves = plain_each p v o (λ (x : Pending). Reaches p x price v') at plain each }
 
 pub plain_stops
     : (p : Program) (v : View) (o : Op) (price : ℕ) (outcome : Outcome) → op_at p v ≡ Some o → IsPlain o
     → ((rest : Sequence) (around : List Around) (st : State) → Holds p v (pending_at (Plain o rest) around st) → Running p v (pending_at (Plain o rest) around st) → RunsOut p (pending_at (Plain o rest) around st) price outcome)
     → Stops p v price outcome
-plain_stops p v o price outcome at plain each = record {
-  stops = λ w h.
-      let r = running_of p v w o h at (plain_no_end o plain) in
-      let here = plain_here r.code.body.ops v.place w.sequence o (place_of p v w r o at) plain in
-      untold (λ (x : Pending). RunsOut p x price outcome) w (Plain o here.rest) here.is
-      (each here.rest w.around w.state (told (λ (x : Pending). Holds p v x) w (Plain o here.rest) here.is h) (told (λ (x : Pending). Running p v x) w (Plain o here.rest) here.is r));
-}
+plain_stops p v o price outcome at plain each = record { stops = plain_each p v o (λ (x : Pending). RunsOut p x price outcome) at plain each }
 
 -- States.
 

@@ -1,10 +1,10 @@
 -- A vessel whose code has gone past a plain operator: what is pending in it, and how it moves.
-use Rattle.std.proofs.Common.{◌≡◌, ℕ, ◌+◌, ◌-◌, ◌<◌, ◌≤◌, List, ◌∷◌, ◌++◌, length, drop, Option, Some, slice_get, refl, ap, subst, ◌∙◌, arith}
+use Rattle.std.proofs.Common.{◌≡◌, ℕ, ◌+◌, ◌-◌, ◌/◌, ◌<◌, ◌≤◌, List, ◌∷◌, ◌++◌, length, drop, Option, Some, slice_get, refl, ap, subst, ◌∙◌, arith}
 use Rattle.wasm_ops.specs.Sequence.{Sequence, Plain, IsPlain}
 use Rattle.wasm_ops.specs.declared.operators.Op.{Op}
 use Rattle.wasm_ops.specs.declared.operators.Op.TheVariants.{End}
 use Rattle.wasm_ops.specs.declared.traps.Trap.{Trap}
-use Rattle.wasm_meaning.specs.Effects.{Goes, Traps, Breaks}
+use Rattle.wasm_meaning.specs.Effects.{Goes, Writes, Traps, Breaks}
 use Rattle.wasm_meaning.specs.Operators.{effect}
 use Rattle.wasm_meaning.specs.Pending.{Around, Pending}
 use Rattle.wasm_meaning.specs.Programs.{Program, instance_of}
@@ -15,7 +15,7 @@ use Rattle.wasm_pending.specs.Steps.{pending_at}
 use Rattle.wasm_pending.specs.Typed.{AreRanged}
 use Rattle.wasm_store.specs.View.{View}
 use Rattle.wasm_states.proofs.Inversions.{plain_here}
-use Rattle.wasm_states.proofs.Moving.{GoesOn, goes_reaches}
+use Rattle.wasm_states.proofs.Moving.{GoesOn, goes_reaches, writes_reaches}
 use Rattle.wasm_states.proofs.RunLaws.{traps_run}
 use Rattle.wasm_states.proofs.StateLaws.{running_of, place_of, told, plain_moves, plain_stops, holds_fits, IsNoEnd}
 use Rattle.wasm_states.specs.Chains.{cells_under}
@@ -79,6 +79,27 @@ going_moves p v o at plain memory globals cells each =
     let g = each rest around st h r in
     subst (λ (k : ℕ). Reaches p (pending_at (Plain o rest) around st) 1 (record v { memory = memory; globals = globals; place = k; cells = cells })) place
     (goes_reaches p (before v) o rest around st g.to h r g.goes memory globals cells g.keeps))
+
+-- An operator that goes on behind a run of bytes that it has written.
+
+pub record Writing (p : Program) (v : View) (o : Op) (around : List Around) (st : State) (count : ℕ) (memory cells : List ℕ) : Type 0 where
+  pub to : State
+  pub writes : effect (instance_of p) o st ≡ Writes count to
+  pub keeps : GoesOn p (before v) st to around memory v.globals cells
+
+pub writing_moves
+    : (p : Program) (v : View) (o : Op) → IsAt p v o → IsPlain o → (count : ℕ) (memory cells : List ℕ)
+    → ((rest : Sequence) (around : List Around) (st : State) → Holds p (before v) (pending_at (Plain o rest) around st) → Running p (before v) (pending_at (Plain o rest) around st)
+    → Writing p v o around st count memory cells)
+    → Moves p (before v) (record v { memory = memory; cells = cells }) (1 + count / 64)
+writing_moves p v o at plain count memory cells each =
+    let passed = at.passed in
+    let place : v.place - 1 + 1 ≡ v.place = omega (arith, passed) in
+    plain_moves p (before v) (record v { memory = memory; cells = cells }) o (1 + count / 64) at.here plain
+    (λ rest around st h r.
+    let g = each rest around st h r in
+    subst (λ (k : ℕ). Reaches p (pending_at (Plain o rest) around st) (1 + count / 64) (record v { memory = memory; place = k; cells = cells })) place
+    (writes_reaches p (before v) o rest around st g.to count h r g.writes memory v.globals cells g.keeps))
 
 pub trapping_stops
     : (p : Program) (v : View) (o : Op) (why : Trap) → IsAt p v o → IsPlain o

@@ -1,3 +1,4 @@
+pub mod BulkMoves
 pub mod CallSteps
 pub mod CellLaws
 pub mod ControlArms

@@ -7,7 +7,7 @@ use Rattle.wasm_ops.specs.declared.types.Access.{Access}
 use Rattle.wasm_ops.specs.declared.types.ValType.{ValType}
 use Rattle.wasm_ops.specs.declared.types.ValType.TheVariants.{I32, I64}
 use Rattle.wasm_meaning.specs.Effects.{Breaks, Taken, take_off, gives}
-use Rattle.wasm_meaning.specs.Memory.{load_effect, load_from, store_effect, store_from, store_to, grow_effect, grow_from}
+use Rattle.wasm_meaning.specs.Memory.{load_effect, load_from, store_effect, store_from, store_to, grow_effect, grow_from, Laying, bulk_effect, bulk_from, bulk_second, bulk_first}
 use Rattle.wasm_meaning.specs.Numeric.{unary_effect, unary_of, unary_on, binary_effect, binary_of, binary_on, binary_first}
 use Rattle.wasm_meaning.specs.Parametric.{drop_from, select_on, select_from, select_of}
 use Rattle.wasm_meaning.specs.State.{State, with_operands}
@@ -207,3 +207,24 @@ store_has access offset st ok =
 
 pub grow_has : (most : ℕ) (st : State) → (grow_effect most st ≡ Breaks → ⊥) → OneOff I32 st.operands
 grow_has most st ok = one_off I32 st.operands (λ none. ok (ap (λ (t : Option Taken). grow_from most t st) none))
+
+-- A run of bytes: the count is the last operand, and two numbers lie under it.
+
+pub record Bulking (st : State) : Type 0 where
+  pub count : OneOff I32 st.operands
+  pub second : OneOff I32 count.under
+  pub first : OneOff I32 second.under
+
+pub bulk_has : (lay : Laying) (st : State) → (bulk_effect lay st ≡ Breaks → ⊥) → Bulking st
+bulk_has lay st ok =
+    let count = one_off I32 st.operands (λ none. ok (ap (λ (t : Option Taken). bulk_from lay t st) none)) in
+    let counted = ap (λ (t : Option Taken). bulk_from lay t st) count.taken in
+    let second = one_off I32 count.under (λ none. ok (counted ∙ ap (λ (t : Option Taken). bulk_second lay (number_in count.value) t st) none)) in
+    record {
+      count = count;
+      second = second;
+      first = one_off I32 second.under (λ none.
+          ok (counted
+          ∙ ap (λ (t : Option Taken). bulk_second lay (number_in count.value) t st) second.taken
+          ∙ ap (λ (t : Option Taken). bulk_first lay (number_in second.value) (number_in count.value) t st) none));
+    }

@@ -23,19 +23,19 @@ use Rattle.wasm_step.specs.Arms.{before, IsAt, Acts}
 use Rattle.wasm_step.specs.Arguments.{Asks}
 use Rattle.wasm_step.specs.Asking.{asked_by, Asking}
 use Rattle.wasm_step.specs.Does.{Ends, Calls, IsPriced, Shorts, Does}
-use Rattle.wasm_step.specs.Means.{Keeps, Means, NothingLeft, IsEnded, IsOneMove, IsSpent}
+use Rattle.wasm_step.specs.Means.{Keeps, Means, NothingLeft, IsEnded, IsOneMove}
 use Rattle.wasm_step.specs.declared.answers.Step.{Step}
 use Rattle.wasm_step.specs.declared.answers.Step.TheVariants as step
 
 -- Kinds of operators.
 
-pub acts_do : (p : Program) (v v' : View) (answer : Step) → Acts p v v' answer → Does p 1 v v' answer
-acts_do p v v' (step.Went price) acts = (omega (arith, acts.0), omega (arith, acts.0), acts.1)
-acts_do p v v' (step.Trapped trap price) acts = (omega (arith, acts.0), (λ none. let bad : ⊥ = omega (arith, acts.0, none) in absurd bad), acts.1)
-acts_do p v v' step.Free acts = absurd acts
-acts_do p v v' (step.Host call) acts = absurd acts
-acts_do p v v' step.Ended acts = absurd acts
-acts_do p v v' step.Short acts = absurd acts
+pub acts_do : (p : Program) (most : ℕ) (v v' : View) (answer : Step) → 1 ≤ most → Acts p v v' answer → Does p most v v' answer
+acts_do p most v v' (step.Went price) some acts = (omega (arith, acts.0), omega (arith, some, acts.0), acts.1)
+acts_do p most v v' (step.Trapped trap price) some acts = (omega (arith, some, acts.0), (λ none. let bad : ⊥ = omega (arith, acts.0, none) in absurd bad), acts.1)
+acts_do p most v v' step.Free some acts = absurd acts
+acts_do p most v v' (step.Host call) some acts = absurd acts
+acts_do p most v v' step.Ended some acts = absurd acts
+acts_do p most v v' step.Short some acts = absurd acts
 
 pub ends_do : (p : Program) (most : ℕ) (v v' : View) (answer : Step) → Ends p v v' answer → Does p most v v' answer
 ends_do p most v v' (step.Went price) ends = absurd ends
@@ -45,39 +45,36 @@ ends_do p most v v' (step.Host call) ends = absurd ends
 ends_do p most v v' step.Ended ends = ends
 ends_do p most v v' step.Short ends = absurd ends
 
-pub calls_do : (p : Program) (v v' : View) (answer : Step) → Calls p v v' answer → Does p 1 v v' answer
-calls_do p v v' (step.Went price) calls = (omega (arith, calls.0), omega (arith, calls.0), calls.1)
-calls_do p v v' (step.Trapped trap price) calls = (omega (arith, calls.0), (λ none. let bad : ⊥ = omega (arith, calls.0, none) in absurd bad), calls.1)
-calls_do p v v' step.Free calls = absurd calls
-calls_do p v v' (step.Host call) calls = calls
-calls_do p v v' step.Ended calls = absurd calls
-calls_do p v v' step.Short calls = absurd calls
+pub calls_do : (p : Program) (most : ℕ) (v v' : View) (answer : Step) → 1 ≤ most → Calls p v v' answer → Does p most v v' answer
+calls_do p most v v' (step.Went price) some calls = (omega (arith, calls.0), omega (arith, some, calls.0), calls.1)
+calls_do p most v v' (step.Trapped trap price) some calls = (omega (arith, some, calls.0), (λ none. let bad : ⊥ = omega (arith, calls.0, none) in absurd bad), calls.1)
+calls_do p most v v' step.Free some calls = absurd calls
+calls_do p most v v' (step.Host call) some calls = calls
+calls_do p most v v' step.Ended some calls = absurd calls
+calls_do p most v v' step.Short some calls = absurd calls
 
 -- Whole steps.
 
-pub keeps_of : (p : Program) (v v' : View) (most left : ℕ) (answer : Step) → IsState p v → most ≤ left → Does p most v v' answer → Keeps p v left v' answer
-keeps_of p v v' most left (step.Went price) state le does =
+pub keeps_of : (p : Program) (v v' : View) (left : ℕ) (answer : Step) → IsState p v → Does p left v v' answer → Keeps p v left v' answer
+keeps_of p v v' left (step.Went price) state does =
     let after = kept_state p v v' price state does.2 in
-    record { least = does.0; within = omega (arith, le, does.1); state = after; few = moves_few p v' after }
-keeps_of p v v' most left step.Free state le does =
+    record { least = does.0; within = does.1; state = after; few = moves_few p v' after }
+keeps_of p v v' left step.Free state does =
     let after = kept_state p v v' 0 state does.0 in
     let less = does.1 in
     record { state = after; fewer = omega (arith, less); few = moves_few p v' after }
-keeps_of p v v' most left (step.Host call) state le does = (does.0, does.1.can)
-keeps_of p v v' most left (step.Trapped trap price) state le does = omega (arith, le, does.0)
-keeps_of p v v' most left step.Ended state le does = does.0
-keeps_of p v v' most left step.Short state le does = does.1
+keeps_of p v v' left (step.Host call) state does = (does.0, does.1.can)
+keeps_of p v v' left (step.Trapped trap price) state does = does.0
+keeps_of p v v' left step.Ended state does = does.0
+keeps_of p v v' left step.Short state does = does.0
 
-pub means_of
-    : (p : Program) (v v' : View) (most left : ℕ) (answer : Step) → (most ≡ 0 → left ≡ 0) → Does p most v v' answer → (w : Pending) → Holds p v w → Means p w v left v' answer
-means_of p v v' most left (step.Went price) nothing does w h = does.2.moves w h
-means_of p v v' most left step.Free nothing does w h = does.0.moves w h
-means_of p v v' most left (step.Host call) nothing does w h = does.1.calls w h
-means_of p v v' most left (step.Trapped trap price) nothing does w h = does.2.stops w h
-means_of p v v' most left step.Ended nothing does w h = does.2.stops w h
-means_of p v v' most left step.Short nothing does w h =
-    let both = does.2.each w h in
-    (both.0, subst (λ (l : ℕ). Lacks p w l) (sym (nothing does.0)) both.1)
+pub means_of : (p : Program) (v v' : View) (left : ℕ) (answer : Step) → Does p left v v' answer → (w : Pending) → Holds p v w → Means p w v left v' answer
+means_of p v v' left (step.Went price) does w h = does.2.moves w h
+means_of p v v' left step.Free does w h = does.0.moves w h
+means_of p v v' left (step.Host call) does w h = does.1.calls w h
+means_of p v v' left (step.Trapped trap price) does w h = does.2.stops w h
+means_of p v v' left step.Ended does w h = does.2.stops w h
+means_of p v v' left step.Short does w h = does.1.each w h
 
 pub asking_of : (p : Program) (v v' : View) (most : ℕ) (answer : Step) → Does p most v v' answer → Asking p v answer
 asking_of p v v' most (step.Went price) does = tt
@@ -85,15 +82,7 @@ asking_of p v v' most step.Free does = tt
 asking_of p v v' most (step.Host call) does = does.2
 asking_of p v v' most (step.Trapped trap price) does = tt
 asking_of p v v' most step.Ended does = tt
-asking_of p v v' most step.Short does = does.3
-
-pub spent_of : (p : Program) (v v' : View) (most left : ℕ) (answer : Step) → (most ≡ 0 → left ≡ 0) → Does p most v v' answer → IsSpent left answer
-spent_of p v v' most left (step.Went price) nothing does = tt
-spent_of p v v' most left step.Free nothing does = tt
-spent_of p v v' most left (step.Host call) nothing does = tt
-spent_of p v v' most left (step.Trapped trap price) nothing does = tt
-spent_of p v v' most left step.Ended nothing does = tt
-spent_of p v v' most left step.Short nothing does = nothing does.0
+asking_of p v v' most step.Short does = does.2
 
 pub one_move_of : (p : Program) (v v' : View) (most : ℕ) (answer : Step) → Does p most v v' answer → IsOneMove v v' answer
 one_move_of p v v' most (step.Went price) does = tt
@@ -149,7 +138,7 @@ ends_there p v v' most step.Free state nothing does = none_free p v v' state.pen
 ends_there p v v' most (step.Host call) state nothing does = never_pays p v state.pending state.holds nothing (does.1.calls state.pending state.holds).pays
 ends_there p v v' most (step.Trapped trap price) state nothing does = never_traps p v state.pending trap price state.holds nothing (does.2.stops state.pending state.holds)
 ends_there p v v' most step.Ended state nothing does = tt
-ends_there p v v' most step.Short state nothing does = never_pays p v state.pending state.holds nothing (does.2.each state.pending state.holds).0
+ends_there p v v' most step.Short state nothing does = never_pays p v state.pending state.holds nothing (does.1.each state.pending state.holds).0
 
 only_there : (p : Program) (v v' : View) (most : ℕ) (answer : Step) → Does p most v v' answer → IsEnded answer → NothingLeft v
 only_there p v v' most (step.Went price) does ended = absurd ended
@@ -197,7 +186,7 @@ no_end_of : (o : Op) → (IsCloser o → ⊥) → IsNoEnd o
 no_end_of op.End goes_on = goes_on tt
 no_end_of o goes_on = tt
 
-pub shorts_at : (p : Program) (v : View) (o : Op) → op_at p v ≡ Some o → (IsCloser o → ⊥) → Shorts p v
+pub shorts_at : (p : Program) (v : View) (o : Op) → op_at p v ≡ Some o → (IsCloser o → ⊥) → Shorts p v 0
 shorts_at p v o at goes_on = record {
   each = λ w h.
       let r = running_of p v w o h at (no_end_of o goes_on) in
@@ -214,7 +203,7 @@ goes_on_of o priced closer = closer
 pub short_back
     : (p : Program) (v v' : View) (o : Op) → IsAt p v o → IsPriced o → asked_by p (before v) (Some o) ≡ None → v' ≡ before v → Does p 0 (before v) v' step.Short
 short_back p v v' o at priced quiet e =
-    (refl, e, shorts_at p (before v) o at.here (goes_on_of o priced), ap (λ (x : Option Op). asked_by p (before v) x) at.here ∙ quiet)
+    (e, shorts_at p (before v) o at.here (goes_on_of o priced), ap (λ (x : Option Op). asked_by p (before v) x) at.here ∙ quiet)
 
 pub priced_of : (o : Op) → (o ≡ op.End → ⊥) → ((end : ℕ) → o ≡ op.Else end → ⊥) → IsPriced o
 priced_of op.End not_end not_else = not_end refl
@@ -222,13 +211,13 @@ priced_of (op.Else end) not_end not_else = not_else end refl
 priced_of o not_end not_else = tt
 
 -- a call of the host costs nothing yet
-pub host_does : (p : Program) (u v v' : View) (name : HostName) (indirect : Bool) (answer : Step) → Asks v name indirect v' answer → Calls p u v' answer → Does p 0 u v' answer
-host_does p u v v' name indirect (step.Host call) asked calls = calls
-host_does p u v v' name indirect (step.Went price) asked calls = absurd asked
-host_does p u v v' name indirect (step.Trapped trap price) asked calls = absurd asked
-host_does p u v v' name indirect step.Free asked calls = absurd asked
-host_does p u v v' name indirect step.Ended asked calls = absurd asked
-host_does p u v v' name indirect step.Short asked calls = absurd asked
+pub host_does : (p : Program) (most : ℕ) (u v v' : View) (name : HostName) (indirect : Bool) (answer : Step) → Asks v name indirect v' answer → Calls p u v' answer → Does p most u v' answer
+host_does p most u v v' name indirect (step.Host call) asked calls = calls
+host_does p most u v v' name indirect (step.Went price) asked calls = absurd asked
+host_does p most u v v' name indirect (step.Trapped trap price) asked calls = absurd asked
+host_does p most u v v' name indirect step.Free asked calls = absurd asked
+host_does p most u v v' name indirect step.Ended asked calls = absurd asked
+host_does p most u v v' name indirect step.Short asked calls = absurd asked
 
 -- the operator that runs next is there
 pub operator_found : (p : Program) (v : View) (function place : ℕ) → IsState p v → function ≡ v.function → place ≡ v.place → is_some (operator_at p.linked function place) ≡ true

@@ -34,9 +34,9 @@ IsPriced End = ⊥
 IsPriced (Else end) = ⊥
 IsPriced o = Unit {0}
 
--- whatever is pending pays for its next operator, and nothing is not enough
-pub record Shorts (p : Program) (v : View) : Type 0 where
-  pub each : (w : Pending) → Holds p v w → Pays p w × Lacks p w 0
+-- whatever is pending pays for its next operator, and so much is not enough
+pub record Shorts (p : Program) (v : View) (left : ℕ) : Type 0 where
+  pub each : (w : Pending) → Holds p v w → Pays p w × Lacks p w left
 
 -- a step that costs no more than so much
 abbrev pub Does : Program → (most : ℕ) → (v v' : View) → Step → Type 0
@@ -45,4 +45,4 @@ Does p most v v' step.Free = Moves p v v' 0 × (free_moves v ≡ free_moves v' +
 Does p most v v' (step.Host call) = (v' ≡ v) × IsHost p v call × IsNextCall p v call
 Does p most v v' (step.Trapped trap price) = (price ≤ most) × (price ≡ 0 → v.frames ≡ []) × Stops p v price (Trapped trap)
 Does p most v v' step.Ended = (v' ≡ v) × NothingLeft v × Stops p v 0 Fell
-Does p most v v' step.Short = (most ≡ 0) × (v' ≡ v) × Shorts p v × (host_next p v ≡ None)
+Does p most v v' step.Short = (v' ≡ v) × Shorts p v most × (host_next p v ≡ None)

@@ -1,12 +1,16 @@
 -- What a step answers, in words of what is pending: what its caller can rely on by itself, and what it means for each pending that the vessel has before it.
-use Rattle.std.specs.Prelude.{◌≡◌, ℕ, ◌+◌, ◌≤◌, ◌<◌, ◌^◌, []}
+use Rattle.std.specs.Prelude.{◌≡◌, ◌≢◌, ◌⊎◌, ℕ, ◌+◌, ◌≤◌, ◌<◌, ◌^◌, [], Option, None}
+use Rattle.wasm_ops.specs.declared.operators.Op.{Op}
 use Rattle.wasm_meaning.specs.Pending.{Pending}
 use Rattle.wasm_meaning.specs.Programs.{Program}
 use Rattle.wasm_meaning.specs.State.{Fell, Trapped}
 use Rattle.wasm_store.specs.View.{View}
+use Rattle.wasm_states.specs.Codes.{op_at}
 use Rattle.wasm_states.specs.Holding.{IsState, free_moves}
 use Rattle.wasm_states.specs.HostCalls.{CanCall, Calls}
 use Rattle.wasm_states.specs.Steps.{RunsOut, Reaches, Pays, Lacks}
+use Rattle.wasm_step.specs.Asking.{asked_by}
+use Rattle.wasm_step.specs.Prices.{price_by, price_next}
 use Rattle.wasm_step.specs.declared.answers.Step.{Step}
 use Rattle.wasm_step.specs.declared.answers.Step.TheVariants as step
 
@@ -54,7 +58,14 @@ IsOneMove v v' step.Free = free_moves v ≡ free_moves v' + 1
 IsOneMove v v' (step.Trapped trap price) = price ≡ 0 → v.frames ≡ []
 IsOneMove v v' answer = Unit {0}
 
--- an operator is short only where nothing is left
-abbrev pub IsSpent : (left : ℕ) → Step → Type 0
-IsSpent left step.Short = left ≡ 0
-IsSpent left answer = Unit {0}
+-- nothing is left, or the operator calls the host or costs more than one unit
+abbrev pub IsHeldBy : Program → (v : View) (left : ℕ) → Option Op → Type 0
+IsHeldBy p v left o = (left ≡ 0) ⊎ ((asked_by p v o ≢ None) ⊎ (1 < price_by v o))
+
+abbrev pub IsHeld : Program → (v : View) (left : ℕ) → Type 0
+IsHeld p v left = IsHeldBy p v left (op_at p v)
+
+-- an operator is short only where it costs more than is left
+abbrev pub IsSpent : Program → (v : View) (left : ℕ) → Step → Type 0
+IsSpent p v left step.Short = left < price_next p v
+IsSpent p v left answer = Unit {0}

@@ -1,5 +1,5 @@
 -- Which answer a step gives: by the operator that runs next, and by what is left.
-use Rattle.std.specs.Prelude.{◌≡◌, ℕ, zero, suc, List, [], ◌∷◌, Option, Some, None}
+use Rattle.std.specs.Prelude.{◌≡◌, ℕ, ◌<◌, ◌≤◌, List, [], ◌∷◌, Option, Some, None}
 use Rattle.wasm_ops.specs.declared.host_calls.HostName.{HostName}
 use Rattle.wasm_ops.specs.declared.operators.Op.{Op}
 use Rattle.wasm_ops.specs.declared.operators.Op.TheVariants.{Else, End}
@@ -10,6 +10,7 @@ use Rattle.wasm_store.specs.declared.calls.Frame.{Frame}
 use Rattle.wasm_states.specs.Codes.{op_at}
 use Rattle.wasm_step.specs.Asking.{asked_by}
 use Rattle.wasm_step.specs.Means.{IsEnded}
+use Rattle.wasm_step.specs.Prices.{price_at}
 use Rattle.wasm_step.specs.declared.answers.Step.{Step}
 use Rattle.wasm_step.specs.declared.answers.Step.TheVariants as step
 
@@ -24,11 +25,11 @@ EntersFree step.Free = Unit {0}
 EntersFree (step.Trapped trap price) = (trap ≡ StackExhausted) × (price ≡ 0)
 EntersFree answer = ⊥
 
--- the operator runs, or traps, and costs one unit
-abbrev pub CostsOne : Step → Type 0
-CostsOne (step.Went price) = price ≡ 1
-CostsOne (step.Trapped trap price) = price ≡ 1
-CostsOne answer = ⊥
+-- the operator runs, or traps, at this price
+abbrev pub CostsJust : (price : ℕ) → Step → Type 0
+CostsJust price (step.Went cost) = cost ≡ price
+CostsJust price (step.Trapped trap cost) = cost ≡ price
+CostsJust price answer = ⊥
 
 abbrev pub IsShort : Step → Type 0
 IsShort step.Short = Unit {0}
@@ -49,22 +50,21 @@ abbrev pub AtEnd : (frames : List Frame) → (entries : List ℕ) → Step → T
 AtEnd [] entries answer = AtRest entries answer
 AtEnd (frame ∷ frames) entries answer = GoesFree answer
 
--- an operator that costs one unit
-abbrev pub ForOne : (left : ℕ) → Step → Type 0
-ForOne zero answer = IsShort answer
-ForOne (suc more) answer = CostsOne answer
+-- an operator of this price is short where less is left, and else it is paid
+abbrev pub ForCost : (price left : ℕ) → Step → Type 0
+ForCost price left answer = (left < price → IsShort answer) × (price ≤ left → CostsJust price answer)
 
 -- an operator that costs something, and the function of the host that it calls, if it calls one
-abbrev pub ForPrice : Option HostName → (left : ℕ) → Step → Type 0
-ForPrice None left answer = ForOne left answer
-ForPrice (Some name) left answer = Names name answer
+abbrev pub ForPrice : Option HostName → (price left : ℕ) → Step → Type 0
+ForPrice None price left answer = ForCost price left answer
+ForPrice (Some name) price left answer = Names name answer
 
 -- the answer to an operator
 abbrev pub AnswersTo : Program → (v : View) → (left : ℕ) → Option Op → Step → Type 0
 AnswersTo p v left None answer = ⊥
 AnswersTo p v left (Some End) answer = AtEnd v.frames v.entries answer
 AnswersTo p v left (Some (Else end)) answer = GoesFree answer
-AnswersTo p v left (Some o) answer = ForPrice (asked_by p v (Some o)) left answer
+AnswersTo p v left (Some o) answer = ForPrice (asked_by p v (Some o)) (price_at v o) left answer
 
 -- the answer to the operator that runs next
 abbrev pub AnswersNext : Program → (v : View) → (left : ℕ) → Step → Type 0

@@ -6,14 +6,16 @@
 #![tactic(auto)]
 
 mod answers;
+mod bulk;
 mod calls;
 mod control;
 mod entries;
+mod held;
 mod memory;
-mod nothing;
 mod numeric;
 mod steps;
 mod variables;
 
 pub use answers::Step;
+pub use held::step_held;
 pub use steps::step;

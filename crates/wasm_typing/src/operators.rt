@@ -1,7 +1,7 @@
-//! The operators that hold no others (WebAssembly Core 1.0, sections 3.3.1 to 3.3.5).
+//! The operators that hold no others (WebAssembly Core 1.0, sections 3.3.1 to 3.3.5; Core 2.0, section 3.3.7, for `memory.copy` and `memory.fill`).
 ghost use Rattle.std.specs.Prelude.{◌≡◌, ◌+◌, ◌≤◌, ◌^◌, nat_le, slice_get};
 ghost use Rattle.wasm_meaning.specs.TypingOperands.{known as known_walk, holds as holds_walk};
-ghost use Rattle.wasm_meaning.specs.Typing.{plain as plain_walk, aligned as aligned_walk, with_table as with_table_walk, with_memory as with_memory_walk, call as call_walk, call_indirect as call_indirect_walk, load as load_walk, store as store_walk, one_operand as one_operand_walk, two_operands as two_operands_walk};
+ghost use Rattle.wasm_meaning.specs.Typing.{plain as plain_walk, aligned as aligned_walk, with_table as with_table_walk, with_memory as with_memory_walk, call as call_walk, call_indirect as call_indirect_walk, load as load_walk, store as store_walk, bulk as bulk_walk, one_operand as one_operand_walk, two_operands as two_operands_walk};
 ghost use Rattle.wasm_meaning.specs.ValiditySpaces.{globals};
 ghost use Rattle.wasm_ops.specs.declared.operators.Op.TheVariants as op;
 ghost use Rattle.wasm_ops.specs.Operations.{operation_of};
@@ -246,6 +246,20 @@ impl Walker {
         self.unary(ValType::I32, ValType::I32)
     }
 
+    // Two numbers and a count, for a run of bytes.
+    fn bulk(&mut self, scope: &Scope<'_>) -> Result<(), BodyFault>
+        ensures walked { Follows (λ u. self.new.now) result (bulk_walk (context_at scope.now self.old) self.old.now) }
+        ensures blocks { self.new.blocks ≡ self.old.blocks }
+        ensures place { self.new.now.place ≡ self.old.now.place }
+        ensures height { height self.new.now ≤ height self.old.now + 1 }
+    {
+        self.with_memory(scope)?;
+        self.take_off(Some(ValType::I32))?;
+        self.take_off(Some(ValType::I32))?;
+        self.take_off(Some(ValType::I32))?;
+        Ok(())
+    }
+
     /// One operator that is no block.
     pub(crate) fn plain(&mut self, scope: &Scope<'_>, op: Op) -> Result<(), BodyFault>
         ensures walked { Follows (λ u. self.new.now) result (plain_walk (context_at scope.now self.old) op self.old.now) }
@@ -275,6 +289,7 @@ impl Walker {
             Op::Store { access, align, .. } => self.store(scope, access, align),
             Op::MemorySize => self.memory_size(scope),
             Op::MemoryGrow => self.memory_grow(scope),
+            Op::MemoryCopy | Op::MemoryFill => self.bulk(scope),
             Op::ConstI32(_) => self.gives(ValType::I32),
             Op::ConstI64(_) => self.gives(ValType::I64),
             Op::Unary(op) => self.one_operand(op),

@@ -1,7 +1,7 @@
 use Rattle.std.proofs.Common.{ℕ, ◌≡◌, ◌≤◌, ◌<◌, ◌-◌, ◌+◌, refl, sym, subst, ◌∙◌, arith}
 use Rattle.wasm_store.specs.View.{View}
 use Rattle.wasm_states.specs.Holding.{IsState, free_moves}
-use Rattle.sandbox_states.proofs.StepLaws.{asked_there, init_paying, went_more, free_step, same_paying, breaks_off, breaks_for_nothing, paid_out}
+use Rattle.sandbox_states.proofs.StepLaws.{asked_held, short_held, init_paying, went_more, free_step, same_paying, breaks_off, breaks_for_nothing, paid_out}
 use Rattle.sandbox_states.specs.declared.runs.Ending.TheVariants as ending
 use Rattle.sandbox_states.proofs.runs.run_operators.Goals as goal
 
@@ -45,13 +45,24 @@ loop-price-preserved c =
 
 pub returns-in-Host-clause-keeps : goal.returns-in-Host-clause-keeps
 returns-in-Host-clause-keeps c =
-    let same = c.in-Host.ensures.keeps.0 in
-    let asks = c.in-Host.ensures.asks.name_is in (
+    let same = c.in-Host.ensures.keeps.0 in (
       omega arith,
       subst (λ (x : View). IsState c.args.program.now x) (sym same) c.loop-price.invariant.state,
       (λ none. subst (λ (x : View). free_moves x ≤ free_moves c.args.vessel.now) (sym same) (c.loop-price.invariant.fewer none)),
-      asked_there c.args.program.now c.loop-price.vessel c.step.new.vessel c.in-Host.field-0 same asks,
+      asked_held c.args.program.now c.loop-price.vessel c.step.new.vessel c.in-Host.field-0 same c.in-Host.ensures.asks.name_is,
     )
+
+pub returns-in-Short-clause-keeps : goal.returns-in-Short-clause-keeps
+returns-in-Short-clause-keeps c =
+    let same = c.in-Short.ensures.keeps in (
+      omega arith,
+      subst (λ (x : View). IsState c.args.program.now x) (sym same) c.loop-price.invariant.state,
+      (λ none. subst (λ (x : View). free_moves x ≤ free_moves c.args.vessel.now) (sym same) (c.loop-price.invariant.fewer none)),
+      short_held c.args.program.now c.loop-price.vessel c.step.new.vessel c.loop-price.rest same c.loop-price.invariant.some c.in-Short.ensures.short,
+    )
+
+pub returns-in-Short-clause-means : goal.returns-in-Short-clause-means
+returns-in-Short-clause-means c w holds = same_paying c.args.most (c.args.most - c.loop-price.rest) c.args.program.now w c.loop-price.vessel c.step.new.vessel w.state.store.streams c.in-Short.ensures.keeps (c.loop-price.invariant.paying w holds)
 
 pub returns-in-Host-clause-means : goal.returns-in-Host-clause-means
 returns-in-Host-clause-means c w holds = same_paying c.args.most (c.args.most - c.loop-price.rest) c.args.program.now w c.loop-price.vessel c.step.new.vessel w.state.store.streams c.in-Host.ensures.keeps.0 (c.loop-price.invariant.paying w holds)

@@ -21,24 +21,27 @@ returns-in-Stopped-clause-means c w holds same =
 
 pub returns-then-paid-eq0-clause-means : goal.returns-then-paid-eq0-clause-means
 returns-then-paid-eq0-clause-means c w holds same =
-    let none : c.in-Asked.paid ≡ 0 = omega (arith, c.if-paid-eq0.true) in
-    let a = subst (λ (n : ℕ). Paying c.min-most.result c.args.program.now w c.run_operators.new.vessel w.state.store.streams n) none (c.in-Asked.ensures.means w holds) in
+    let none : c.in-Held.paid ≡ 0 = omega (arith, c.if-paid-eq0.true) in
+    let a = subst (λ (n : ℕ). Paying c.min-most.result c.args.program.now w c.run_operators.new.vessel w.state.store.streams n) none (c.in-Held.ensures.means w holds) in
     parts_then c.args.due c.min-most.result c.args.program.now w c.args.left c.run_operators.new.vessel c.advance-then-paid-eq0.new.vessel w.state.store.streams c.advance-then-paid-eq0.new.streams c.advance-then-paid-eq0.result c.requires.some a
     (c.advance-then-paid-eq0.ensures.means a.path.next a.path.holds (a.path.streams_are ∙ same))
 
 pub returns-else-paid-eq0-clause-keeps : goal.returns-else-paid-eq0-clause-keeps
 returns-else-paid-eq0-clause-keeps c =
-    let enough = c.in-Asked.ensures.keeps.0 in
+    let enough = c.in-Held.ensures.keeps.0 in
     let within = (lesser c.args.left c.args.due c.min-most.result c.min-most.ensures).within_left in
     let some = c.if-paid-eq0.false in
-    (omega (arith, some), omega (arith, enough, within), c.in-Asked.ensures.keeps.1, moves_few c.args.program.now c.run_operators.new.vessel c.in-Asked.ensures.keeps.1)
+    (omega (arith, some), omega (arith, enough, within), c.in-Held.ensures.keeps.1, moves_few c.args.program.now c.run_operators.new.vessel c.in-Held.ensures.keeps.1)
 
 pub returns-else-paid-eq0-clause-means : goal.returns-else-paid-eq0-clause-means
 returns-else-paid-eq0-clause-means c w holds same =
     let l = (lesser c.args.left c.args.due c.min-most.result c.min-most.ensures) in
-    pause_parts c.args.due c.min-most.result c.args.program.now w c.run_operators.new.vessel c.args.streams.now c.in-Asked.paid same l.within_due (c.in-Asked.ensures.means w holds) (l.cases c.in-Asked.paid c.in-Asked.ensures.keeps.0)
+    pause_parts c.args.due c.min-most.result c.args.program.now w c.run_operators.new.vessel c.args.streams.now c.in-Held.paid same l.within_due (c.in-Held.ensures.means w holds) (l.cases c.in-Held.paid c.in-Held.ensures.keeps.0)
 
 pub returns-in-Over-clause-means : goal.returns-in-Over-clause-means
 returns-in-Over-clause-means c w holds same =
     let l = (lesser c.args.left c.args.due c.min-most.result c.min-most.ensures) in
     break_parts c.args.due c.min-most.result c.args.left c.args.program.now w c.args.streams.now c.in-Over.end c.in-Over.paid same l.within_due c.in-Over.ensures.keeps l.within_left (c.in-Over.ensures.means w holds)
+
+pub advance-requires-then-paid-eq0-clause-held : goal.advance-requires-then-paid-eq0-clause-held
+advance-requires-then-paid-eq0-clause-held c = c.in-Held.ensures.keeps.3 c.args.left

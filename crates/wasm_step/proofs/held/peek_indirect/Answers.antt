@@ -1,5 +1,5 @@
 use Rattle.wasm_step.proofs.CallSteps.{indirect_some, indirect_small}
-use Rattle.wasm_step.proofs.nothing.peek_indirect.Goals as goal
+use Rattle.wasm_step.proofs.held.peek_indirect.Goals as goal
 
 pub operand-requires : goal.operand-requires
 operand-requires c = indirect_some c.args.program.now c.args.vessel.now c.args.type_index c.requires.at

@@ -2,7 +2,7 @@
 """Bodies by tables: each operator, each refusal at its place, and bodies at their limits.
 
 The spellings and what they mean are those of WebAssembly Core 1.0, section 5.4, and of Core 2.0, the same section,
-for sign extensions, `call_indirect` and the prefix FC, written out here by hand; the numbers of refusals and the limits are those of docs/FORMATS.md. Nothing here is taken from what the
+for sign extensions, `call_indirect`, `memory.copy`, `memory.fill` and the prefix FC, written out here by hand; the numbers of refusals and the limits are those of docs/FORMATS.md. Nothing here is taken from what the
 program prints.
 
     body_table.py [check|make]      compares crates/wasm_tables/data/body and what stdout there has of it with the tables, or writes them (tests/lib/tables.py)
@@ -62,6 +62,10 @@ OPERATORS = [
     ("248001", "GlobalSet(128)"),
     ("3f00", "MemorySize"),
     ("4000", "MemoryGrow"),
+    ("fc0a0000", "MemoryCopy"),
+    ("fc8a800000" + "00", "MemoryCopy"),
+    ("fc0b00", "MemoryFill"),
+    ("fc8b8080800000", "MemoryFill"),
     ("417f", "ConstI32(4294967295)"),
     ("41c0bb78", "ConstI32(4294843840)"),
     ("427e", "ConstI64(18446744073709551614)"),
@@ -103,7 +107,7 @@ UNKNOWN = [(0x06, 0x0A), (0x12, 0x19), (0x1C, 0x1F), (0x25, 0x27), (0xC5, 0xFB),
 
 # Numbers behind the prefix FC that are float operators, and those that are none that is known: their first, their last, and some between.
 FLOAT_CODES = ["00", "01", "02", "03", "04", "05", "06", "07", "8000", "8780808000"]
-UNKNOWN_CODES = ["08", "09", "0a0000", "0a", "0b00", "0b", "0c", "0e0000", "11", "7f", "8800", "8a00", "8780808001", "ff01", "ff81808000", "ffffffff0f"]
+UNKNOWN_CODES = ["08", "09", "0c", "0e0000", "11", "7f", "8800", "8a01", "8b8001", "8780808001", "8a80808001", "ff01", "ff81808000", "ffffffff0f"]
 
 # Blocks that know their ends, an empty body, and `br_table`s that share the targets.
 BODIES = [
@@ -198,7 +202,20 @@ REFUSALS = [
     ("00fc808080808000", 2, 2),
     ("00fc8080808010", 3, 2),
     ("0001fc0700", 5, 2),
-    ("0001fc0b00", 6, 2),
+    ("0001fc0c00", 6, 2),
+    # The bytes behind `memory.copy` and `memory.fill`: one is cut, or another than 00.
+    ("00fc0a", 1, 3),
+    ("00fc0a00", 1, 4),
+    ("00fc0b", 1, 3),
+    ("00fc0a0100", 13, 3),
+    ("00fc0a0001", 13, 4),
+    ("00fc0a0101", 13, 3),
+    ("00fc0a8000", 13, 3),
+    ("00fc0a0080", 13, 4),
+    ("00fc0b01", 13, 3),
+    ("00fc0b80", 13, 3),
+    ("00fc8a8080800001", 13, 7),
+    ("0001fc0bff", 13, 4),
     # Behind a closed body it is rest like any other byte.
     ("000bfc00", 14, 2),
     # Bytes behind the closing `end`.

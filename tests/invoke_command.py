@@ -14,10 +14,10 @@ from lib.running import build, differs, lay, run
 from lib.whole_modules import ECHO, ENDLESS, MOST_FRAMES, NOTHING, ONE_FUNCTION, PAGE_FILLER, START, TAKES_NOTHING, TOO_MANY_FRAMES, ZERO_READER, text
 
 
-def module(body, types=TAKES_NOTHING):
-    """The module of one function with this body and this type section, in hexadecimal, that is exported as `_start`."""
+def module(body, types=TAKES_NOTHING, memory=""):
+    """The module of one function with this body, this type section and this memory section, in hexadecimal, that is exported as `_start`."""
     size = len(bytes.fromhex(body)) + 2
-    return text(types, ONE_FUNCTION, START, "0A", bytes([size + 2, 1, size, 0]).hex(), body, "0B")
+    return text(types, ONE_FUNCTION, memory, START, "0A", bytes([size + 2, 1, size, 0]).hex(), body, "0B")
 
 
 FILES = {
@@ -123,8 +123,18 @@ RUNS = [
     ("41 00 04 7F 41 07 05 41 08 0B 1A", 10, OK, 4),
 ]
 
+# The section of a memory of one page, and operators that fill all of it with 7, and one byte more.
+ONE_PAGE = "05 03 01 00 01"
+FILL_PAGE, FILL_MORE = "41 00 41 07 41 80 80 04 FC 0B 00", "41 00 41 07 41 81 80 04 FC 0B 00"
+
 # a module, the name of the body, a budget, the reply, the units
 PROGRAMS = [
+    # Three constants, and 1 with 1 more for each 64 bytes; where the bytes leave the memory, 1.
+    (module(FILL_PAGE, memory=ONE_PAGE), "empty", 2000, OK, 1028),
+    (module(FILL_PAGE, memory=ONE_PAGE), "empty", 1028, OK, 1028),
+    (module(FILL_PAGE, memory=ONE_PAGE), "empty", 1027, SPENT, 3),
+    (module(FILL_MORE, memory=ONE_PAGE), "empty", 2000, trap("out of bounds memory access"), 4),
+    (module(FILL_MORE, memory=ONE_PAGE), "empty", 3, SPENT, 3),
     # `_start` pays 2, each call with a number above 0 pays 6, and that with 0 pays 2; one deeper there is no frame for it.
     (MOST_FRAMES, "empty", 30000, OK, 24568),
     (TOO_MANY_FRAMES, "empty", 30000, trap("call stack exhausted"), 24572),
@@ -158,10 +168,13 @@ REFUSED_BODIES = [
     ("92", 5, 35),
     ("43 00 00 00 00 1A", 5, 35),
     ("41 80 80 80 80 70 1A", 3, 36),
-    # A conversion of a float that saturates, and a copy and a filling of memory; a call through a second table.
+    # A conversion of a float that saturates, a table that grows, a copy and a filling of memory where there is none, and of another memory than the first; a call through a second table.
     ("FC 00", 5, 35),
-    ("FC 0A 00 00", 6, 35),
-    ("FC 0B 00", 6, 35),
+    ("FC 0F 00", 6, 35),
+    ("FC 0A 00 00", 30, 0),
+    ("41 00 41 00 41 00 FC 0B 00", 30, 3),
+    ("FC 0A 00 01", 13, 38),
+    ("FC 0B 01", 13, 37),
     ("11 00 01", 13, 37),
 ]
 

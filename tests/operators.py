@@ -109,6 +109,58 @@ def growth_cases():
     yield Case("a byte behind what has grown", program(grows(1, 1) + const(2 * PAGE, 32) + access(0x2D, 0) + b"\x1a", **WITH_BYTES))
 
 
+# ---- runs of bytes: memory.copy and memory.fill
+
+COPY, FILL = text("FC 0A 00 00"), text("FC 0B 00")
+# Ranges that lie apart, touch, and overlap by all but one, two and eight bytes, both ways; and bytes about a block and its end.
+COPIES = [
+    (40, 8, 9), (8, 40, 9), (17, 8, 9), (8, 17, 9), (8, 8, 9), (9, 8, 9), (8, 9, 9), (10, 8, 9), (8, 10, 9), (16, 8, 9), (8, 16, 9),
+    (8, 8, 0), (4090, 8, 9), (4096, 8, 9), (8, 4095, 5), (0, 1, 4200), (1, 0, 4200), (4100, 3, 8200), (3, 4100, 8200),
+]  # fmt: skip
+# The last bytes, none behind them, one too many, and numbers whose sum would wrap.
+AT_ENDS = [(PAGE, 0), (PAGE - 1, 1), (PAGE - 9, 9), (0, PAGE), (PAGE, 1), (PAGE - 1, 2), (PAGE + 1, 0), (1, PAGE), (2**32 - 1, 0), (2**32 - 1, 1), (8, 2**32 - 8), (2**32 - 1, 2**32 - 1)]
+
+
+def memory_is(memory):
+    """Traps where the memory is another one: it is looked at in words, and only near what is not zero."""
+    words = [at for at in range(0, PAGE, 8) if any(memory[max(at - 8, 0) : at + 16])]
+    return b"".join(const(at, 32) + access(0x29, 0) + expects(int.from_bytes(memory[at : at + 8], "little"), 64) for at in words)
+
+
+def first_memory():
+    memory = bytearray(PAGE)
+    memory[8 : 8 + len(BYTES)] = BYTES
+    return memory
+
+
+def bulk_cases():
+    for to, start, count in COPIES:
+        memory = first_memory()
+        memory[to : to + count] = bytes(memory[start : start + count])
+        code = const(to, 32) + const(start, 32) + const(count, 32) + COPY
+        yield Case("copy %d bytes from %d to %d" % (count, start, to), program(code + memory_is(memory), **WITH_BYTES), budget=2 * 10**5)
+    for value in (0, 1, 0x7F, 0x80, 0xFF, 0x100, 0x1FF, 0x12345678, 2**32 - 1):
+        for at, count in ((0, 1), (9, 3), (8, 9), (7, 0), (4095, 2), (4096, 64), (0, 4097)):
+            memory = first_memory()
+            memory[at : at + count] = bytes([value % 256]) * count
+            code = const(at, 32) + const(value, 32) + const(count, 32) + FILL
+            yield Case("fill %d bytes at %d with %x" % (count, at, value), program(code + memory_is(memory), **WITH_BYTES), budget=2 * 10**5)
+    for at, count in AT_ENDS:
+        for name, code in (
+            ("copy to", const(at, 32) + const(0, 32) + const(count, 32) + COPY),
+            ("copy from", const(0, 32) + const(at, 32) + const(count, 32) + COPY),
+            ("fill", const(at, 32) + const(0xAB, 32) + const(count, 32) + FILL),
+        ):
+            yield Case("%s %d bytes at %d" % (name, count, at), program(code, **WITH_BYTES), budget=2 * 10**5)
+    # A trap comes before any effect, but nobody looks at the memory behind it: a budget about its price tells that it is 1.
+    for budget in (2, 3, 4, 5):
+        yield Case("a fill of what is not there, with a budget", program(const(1, 32) + const(0, 32) + const(PAGE, 32) + FILL, **WITH_BYTES), budget=budget)
+    for count in (0, 1, 63, 64, 65, 127, 128, 6400):
+        for budget in (3, 4, 3 + count // 64, 4 + count // 64, 5 + count // 64):
+            for name, code in (("copy", COPY), ("fill", FILL)):
+                yield Case("%s %d bytes with a budget" % (name, count), program(const(9, 32) + const(8, 32) + const(count, 32) + code, **WITH_BYTES), budget=budget)
+
+
 # ---- control and variables: operators in hexadecimal, with parts of the module
 
 I32_TO_I32, TWO_TO_I64, NOTHING = "60 01 7F 01 7F", "60 02 7F 7E 01 7E", "60 00 00"
@@ -209,7 +261,7 @@ def budget_cases():
 
 def main(words):
     usage.none(words, __doc__)
-    return compare([case for cases in (integer_cases, memory_cases, growth_cases, control_cases, budget_cases) for case in cases()]) != 0
+    return compare([case for cases in (integer_cases, memory_cases, growth_cases, bulk_cases, control_cases, budget_cases) for case in cases()]) != 0
 
 
 if __name__ == "__main__":

@@ -193,7 +193,7 @@ def one(operators, local_types="00", names=None, **others):
 FLOAT = one("43 00 00 80 3F 43 00 00 80 3F 92 1A")
 LOCAL = one("", "01 01 7D")
 PARAMETER = named(module(types=["60 00 00", "60 01 7C 01 7F"], functions=["00", "01"], exports=[START + "00"], bodies=["", "41 00"]), {0: b"first", 1: b"taken"})
-TAIL_CALL, FILLED, SATURATED = one("12 01"), one("41 00 41 00 41 00 FC 0B 00", memories=["00 01"]), one("43 00 00 00 00 FC 00 1A")
+TAIL_CALL, INITIALIZED, SATURATED = one("12 01"), one("41 00 41 00 41 00 FC 08 00 00", memories=["00 01"]), one("43 00 00 00 00 FC 00 1A")
 TRUNCATED = one("41 00 FC 02 1A")
 REFERENCES = one("41 00 11 00 81 80 80 80 00", tables=["70 00 01"])
 # `START` is exported of one function, whose section of bodies begins at 30; a count of data segments, and tags of exceptions, before it
@@ -224,8 +224,8 @@ MODULE_CASES = [
      "|floats function 0 <first>: 1 float operator, the first i32.trunc_sat_f64_s at byte 38|" + NO_FLOATS),
     (TAIL_CALL, (6, 36), "a byte of no operator that is known here", "where {at}, in the section of bodies|in function 0 <first>"
      "|operator return_call, number 0 of its body|found the byte 12|means tail calls of a later version of WebAssembly|%s, and without -mtail-call." % CORE_ONE),
-    (FILLED, (6, 47), "a byte of no operator that is known here", "where {at}, in the section of bodies|in function 0 <first>"
-     "|operator memory.fill, number 3 of its body|found the byte FC|means bulk memory of a later version of WebAssembly|%s, and without -mbulk-memory." % CORE_ONE),
+    (INITIALIZED, (6, 47), "a byte of no operator that is known here", "where {at}, in the section of bodies|in function 0 <first>"
+     "|operator memory.init, number 3 of its body|found the byte FC|means bulk memory of a later version of WebAssembly|%s, and without -mbulk-memory." % CORE_ONE),
     (LOCAL, (7, 37), "a float type", "where {at}, in the section of bodies|in function 0 <first>|part the locals of the function"
      "|floats function 0 <first>: 1 local of floats|" + NO_FLOATS),
     (PARAMETER, (7, 16), "a float type", "where {at}, in the section of types|part type 1: (f64) -> (i32)|floats function 1 <taken>: its type is (f64) -> (i32)|" + NO_FLOATS),

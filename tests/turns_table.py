@@ -12,7 +12,9 @@ import random
 import sys
 
 from lib import fresh_states, tables
-from lib.in_turns import BLOCKS, BY_ZERO, DEAR, DEEP, ENDS_WELL, EXITS, GROWS, ITSELF, NOPS, THROUGH, TWO_ENTRIES, answer, became
+from lib.in_turns import (
+    BLOCKS, BY_ZERO, COPIES, DEAR, DEEP, ENDS_WELL, EXITS, FILLS, GROWS, ITSELF, NOPS, OVERFILLS, THROUGH, TWO_ENTRIES, answer, became,
+)  # fmt: skip
 from lib.random_modules import grown_program
 from lib.whole_modules import ECHO, ENDLESS, MOST_FRAMES, NOTHING, PAGE_FILLER, UNREACHABLE, ZERO_READER
 
@@ -51,6 +53,22 @@ ROWS = [
     ("a call through the table at a group's end", THROUGH, b"", 100, 15, "replied " + "00" * 128, 17, 2),
     ("a call through the table behind a group's end", THROUGH, b"", 100, 11, "replied " + "00" * 128, 17, 2),
     ("a call through the table that is not paid", THROUGH, b"", 14, 11, "spent", 11, 2),
+    # A run of bytes is one price: a turn whose rest is less runs it all the same, and a budget whose rest is less does not.
+    ("a page filled in turns of an operator", FILLS, b"", 2000, 1, "replied -", 1028, 4),
+    ("a page filled behind a group's end", FILLS, b"", 2000, 3, "replied -", 1028, 2),
+    ("a page filled in a turn with little left", FILLS, b"", 2000, 4, "replied -", 1028, 1),
+    ("a page filled with as much as it costs", FILLS, b"", 1028, 2**32 - 1, "replied -", 1028, 1),
+    ("a page not filled, for a unit", FILLS, b"", 1027, 2**32 - 1, "spent", 3, 1),
+    ("a page not filled, for a unit, in turns", FILLS, b"", 1027, 3, "spent", 3, 2),
+    ("a byte too many", OVERFILLS, b"", 2000, 1, "trap: out of bounds memory access", 4, 4),
+    ("a byte too many, with as much as it costs", OVERFILLS, b"", 4, 4, "trap: out of bounds memory access", 4, 1),
+    ("a byte too many, not paid", OVERFILLS, b"", 3, 4, "spent", 3, 1),
+    ("a copy behind a group's end", COPIES, b"", 100, 3, "replied -", 9, 3),
+    ("a copy that ends a group", COPIES, b"", 100, 4, "replied -", 9, 2),
+    ("a copy that ends a group with more than it needs", COPIES, b"", 100, 5, "replied -", 9, 2),
+    ("a copy within a group", COPIES, b"", 100, 8, "replied -", 9, 2),
+    ("a copy with too little", COPIES, b"", 6, 4, "spent", 3, 1),
+    ("a copy with as much as it costs", COPIES, b"", 7, 7, "spent", 7, 2),
     # The last call is paid and fills its group, and then entering traps for nothing in the same turn.
     ("entering that traps", DEEP, b"", 10**6, 4096, "trap: call stack exhausted", 4096, 1),
     ("entering that traps", DEEP, b"", 10**6, 4095, "trap: call stack exhausted", 4096, 2),
@@ -85,6 +103,9 @@ PROGRAMS = [
     ("an exit", EXITS, b"", [13, 14, 15, 100]),
     ("an exit with 0", ENDS_WELL, b"", [100]),
     ("a dear call", DEAR, b"", [2141, 2142, 3000]),
+    ("a page filled", FILLS, b"", [3, 4, 1027, 1028, 2000]),
+    ("a byte too many", OVERFILLS, b"", [3, 4]),
+    ("a copy", COPIES, b"", [6, 7, 100]),
     ("growing", GROWS, b"", [100]),
     ("the zero reader", ZERO_READER, b"", [12, 13, 100]),
 ]

@@ -213,6 +213,25 @@ OPERATORS = [
     of_body("40 00 1A", broken(30, 0, 0)),
     of_body("3F 00 40 00 1A", valid((1, 0)), memories=[MEMORY]),
     of_body("42 00 40 00 1A", broken(31, 1, 0), imports=[MEMORY_IMPORT]),
+    # a run of bytes needs a memory, and three i32, which are looked at from the last to the first
+    *[
+        row
+        for code in ("FC 0A 00 00", "FC 0B 00")
+        for row in (
+            of_body(f"41 00 41 00 41 00 {code}", valid((3, 0)), memories=[MEMORY]),
+            of_body(f"41 00 41 00 41 00 {code}", valid((3, 0)), imports=[MEMORY_IMPORT]),
+            of_body(f"41 00 41 00 41 00 {code}", broken(30, 3, 0)),
+            of_body(f"42 00 {code}", broken(30, 1, 0)),
+            of_body(code, broken(32, 0, 0), memories=[MEMORY]),
+            of_body(f"41 00 41 00 {code}", broken(32, 2, 0), memories=[MEMORY]),
+            of_body(f"41 00 41 00 42 00 {code}", broken(31, 3, 0), memories=[MEMORY]),
+            of_body(f"41 00 42 00 41 00 {code}", broken(31, 3, 0), memories=[MEMORY]),
+            of_body(f"42 00 41 00 41 00 {code}", broken(31, 3, 0), memories=[MEMORY]),
+            of_body(f"42 00 41 00 {code}", broken(31, 2, 0), memories=[MEMORY]),
+            of_body(f"41 00 41 00 41 00 {code} 1A", broken(32, 4, 0), memories=[MEMORY]),
+            of_body(f"00 {code}", valid((0, 0)), memories=[MEMORY]),
+        )
+    ],
     # a missing memory comes before the alignment, and that before the operands
     of_body("28 03 00", broken(30, 0, 0)),
     of_body("28 03 00", broken(33, 0, 0), memories=[MEMORY]),

@@ -29,6 +29,10 @@ ENDS_WELL = calling(filled(3) + call(EXIT, 0))
 DEAR = calling(laid(0, [(0, 8)] * 300) + call(WRITE, 1, 0, 300, 65532) + b"\x1a\x01")
 # Writes 128 bytes through the table, which costs 4, behind 11 operators and before two.
 THROUGH = calling(laid(0, [(1024, 128)]) + through(0, 0, 1, 0, 1, 8) + b"\x1a\x01", tables=["70 00 01"], elements=["00 41 00 0B 01 01"])
+# Fills a page, which costs 1,025 behind three operators; and would fill one byte more.
+FILLS, OVERFILLS = (one("41 %s 41 07 41 80 80 04 FC 0B 00" % at, memories=["00 01"]) for at in ("00", "01"))
+# Copies 192 bytes, which costs 4, between three operators and two.
+COPIES = one("41 00 41 01 41 C0 01 FC 0A 00 00 01 01", memories=["00 01"])
 GROWS = one("41 01 40 00 1A 41 FC FF 07 41 05 36 02 00 41 FF 01 40 00 1A 3F 00 1A", memories=["00 01"])
 
 

@@ -265,6 +265,17 @@ class Machine:
             self.memory += bytes(by * PAGE)
         frame.operands.append(pages if fits else 2**32 - 1)
 
+    def bulk(self, frame, operator):
+        """`memory.copy` and `memory.fill`, which cost what they write where they lie within the memory."""
+        at, other, count = frame.operands[-3:]
+        copies = operator[1] == 0x0A
+        lie = self.lies(at, count) and (not copies or self.lies(other, count))
+        self.pay(1 + count // 64 if lie else 1)
+        if not lie:
+            raise Trap("out of bounds memory access")
+        del frame.operands[-3:]
+        self.memory[at : at + count] = bytes(self.memory[other : other + count]) if copies else bytes([other % 256]) * count
+
     def numeric(self, frame, byte):
         function, bits, one = NUMERIC[byte]
         last = frame.operands.pop()
@@ -363,6 +374,8 @@ class Machine:
             self.call(frame, operator[1])
         elif operator[0] == 0x11:
             self.call_indirect(frame, operator[1])
+        elif operator[0] == 0xFC:
+            self.bulk(frame, operator)
         else:
             self.pay(1)
             self.act(frame, operator, place)

@@ -1,6 +1,6 @@
 """A reader of modules that is written from the binary format alone (WebAssembly Core 1.0, chapter 5, without floating
-point; of Core 2.0 the sign extensions, the table index of `call_indirect`, the prefix FC and the count of data segments;
-and the limits and refusal numbers of docs/FORMATS.md). Nothing here is taken from the repository's code.
+point; of Core 2.0 the sign extensions, the table index of `call_indirect`, `memory.copy` and `memory.fill` behind the prefix
+FC, and the count of data segments; and the limits and refusal numbers of docs/FORMATS.md). Nothing here is taken from the repository's code.
 
 `refusal` answers the number and the place of the first refusal of a file, or None where it is read.
 """
@@ -16,8 +16,10 @@ INTEGER_OPERATORS = {*range(0x45, 0x5B), *range(0x67, 0x8B), 0xA7, 0xAC, 0xAD, *
 FLOAT_OPERATORS = {
     0x2A, 0x2B, 0x38, 0x39, 0x43, 0x44, *range(0x5B, 0x67), *range(0x8B, 0xA7), *range(0xA8, 0xAC), *range(0xAE, 0xC0),
 }
-# What Core 2.0 has behind the prefix FC: the conversions of floats that saturate, and other operators, none of which is taken.
+# What Core 2.0 has behind the prefix FC: the conversions of floats that saturate, `memory.copy` and `memory.fill` with their
+# reserved bytes, and other operators, none of which is taken.
 SATURATING = range(8)
+RESERVED_BEHIND = {10: 2, 11: 1}
 BARE = {0x00, 0x01, 0x0F, 0x1A, 0x1B} | INTEGER_OPERATORS
 INDEXED = {0x0C, 0x0D, 0x10, *range(0x20, 0x25)}
 ACCESSES = {0x28, 0x29, *range(0x2C, 0x38), *range(0x3A, 0x3F)}
@@ -167,7 +169,11 @@ def immediates(window, byte, place):
         if window.number() != 0:
             raise Refused(RESERVED, table_place)
     elif byte == 0xFC:
-        raise Refused(FLOAT_OPERATOR if window.number() in SATURATING else UNKNOWN_OPERATOR, place)
+        code = window.number()
+        if code not in RESERVED_BEHIND:
+            raise Refused(FLOAT_OPERATOR if code in SATURATING else UNKNOWN_OPERATOR, place)
+        for _ in range(RESERVED_BEHIND[code]):
+            window.only((0,), RESERVED)
     elif byte in ACCESSES:
         window.number()
         window.number()

@@ -1,5 +1,5 @@
 """A validator of modules that is written from the standard alone (WebAssembly Core 1.0, chapter 3 and appendix A.3, without
-floating point and with the sign extensions of Core 2.0; the numbers and the order of the looks are those of
+floating point and with the sign extensions, `memory.copy` and `memory.fill` of Core 2.0; the numbers and the order of the looks are those of
 docs/FORMATS.md). Nothing here is taken from the repository's code.
 
 `decode` makes a module of a file that `module_reader` reads. `violation` answers the first violation of a module as
@@ -133,6 +133,9 @@ class Bytes:
             return byte, self.number(), self.number()
         if byte in (0x3F, 0x40):
             return byte, self.byte()
+        if byte == 0xFC:
+            code = self.number()
+            return byte, code, self.take(2 if code == 0x0A else 1)
         if byte in (0x41, 0x42):
             return byte, self.signed()
         if byte in (0x0C, 0x0D, 0x10, *range(0x20, 0x25)):
@@ -275,6 +278,9 @@ class Body:
             if byte == 0x40:
                 self.pop(I32)
             self.push([I32])
+        elif byte == 0xFC:
+            self.item(self.module.memories, 0)
+            self.pop_all([I32, I32, I32])
         else:
             self.push([I32 if byte == 0x41 else I64])
 
